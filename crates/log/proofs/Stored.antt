@@ -1,0 +1,58 @@
+-- Lists of stores: the region after some of them, and then the others; and stores in a part of a region as stores of the whole.
+use Prim.Native.Nat.{ℕ, zero, suc, _+_, _-_, _≤_}
+use native.Mathlib.Nat.{zero-sub, sub-zero, suc-sub-suc}
+use native.Mathlib.Omega.{arith}
+use mathlib.Core.Path.{_≡_, refl, sym, ap, _∙_}
+use mathlib.Core.List.{List, [], _∷_, _++_, map}
+use lib.ListN.{length, take, drop, set, take-append-drop, length-set}
+use lib.Seq.{take-nil, take-set-le, drop-set-add}
+use Rattle.log.specs.Stores.{Store, stored, storedUnder, shift, shifted}
+
+-- stores made one after the other, as one list
+pub stored-append : (xs : List ℕ) (ss ts : List Store) → stored xs (ss ++ ts) ≡ stored (stored xs ss) ts
+unfolding stored
+stored-append xs [] ts = refl
+stored-append xs (s ∷ ss) ts = stored-append (set xs (s .at) (s .value)) ss ts
+
+-- a region keeps its length
+pub length-stored : (xs : List ℕ) (ss : List Store) → length (stored xs ss) ≡ length xs
+unfolding stored
+length-stored xs [] = refl
+length-stored xs (s ∷ ss) = length-stored (set xs (s .at) (s .value)) ss ∙ length-set xs (s .at) (s .value)
+
+-- what a supply takes of two lists: of the second, as many as the first leaves of it
+pub take-append : {A : Type 0} (c : ℕ) (xs ys : List A) → take c (xs ++ ys) ≡ take c xs ++ take (c - length xs) ys
+take-append zero xs ys = rw zero-sub
+take-append (suc c) [] ys = rw sub-zero
+take-append (suc c) (x ∷ xs) ys = rw suc-sub-suc (ap (λ r. x ∷ r) (take-append c xs ys))
+
+-- stores in the part of a region that begins at base are the shifted ones in the region
+pub stored-part : (base : ℕ) (xs : List ℕ) (ss : List Store) → base ≤ length xs
+    → take base xs ++ stored (drop base xs) ss ≡ stored xs (shifted base ss)
+unfolding stored
+stored-part base xs [] h = take-append-drop base xs
+stored-part base xs (s ∷ ss) h =
+    let fits : base ≤ length (set xs (base + s .at) (s .value)) = simp length-set h in
+    let kept : base ≤ base + s .at = omega arith in
+    simp (take-set-le base xs (base + s .at) (s .value) kept, drop-set-add) at
+    (stored-part base (set xs (base + s .at) (s .value)) ss fits)
+
+-- two lists of stores under one supply: the second is made under what the first leaves
+pub under-append : (c : ℕ) (xs : List ℕ) (ss ts : List Store) → storedUnder c xs (ss ++ ts) ≡ storedUnder (c - length ss) (storedUnder c xs ss) ts
+under-append c xs ss ts = ap (stored xs) (take-append c ss ts) ∙ stored-append xs (take c ss) (take (c - length ss) ts)
+
+-- the first of some images are the images of the first
+take-map : {A B : Type 0} (f : A → B) (c : ℕ) (xs : List A) → take c (map f xs) ≡ map f (take c xs)
+take-map f zero xs = refl
+take-map f (suc c) [] = refl
+take-map f (suc c) (x ∷ xs) = ap (λ r. f x ∷ r) (take-map f c xs)
+
+-- and so they are under a supply
+pub under-part : (c base : ℕ) (xs : List ℕ) (ss : List Store) → base ≤ length xs
+    → take base xs ++ storedUnder c (drop base xs) ss ≡ storedUnder c xs (shifted base ss)
+under-part c base xs ss h = stored-part base xs (take c ss) h ∙ ap (stored xs) (sym (take-map (shift base) c ss))
+
+-- where there are no stores, supply and region are as they were
+pub under-none : (c : ℕ) (xs : List ℕ) (ss : List Store) → ss ≡ [] → (c ≡ c - length ss) × (xs ≡ storedUnder c xs ss)
+unfolding stored
+under-none c xs ss e = rw e (sym (sub-zero c), sym (ap (stored xs) (take-nil c)))

@@ -1,0 +1,115 @@
+-- `region::append` meets its contract: what the record writer stores in its part of the log are the stores of that record in the log.
+use Prim.Native.Nat.{ℕ, _+_, _-_, _≤_, _<_}
+use native.Mathlib.Nat.{le-of-eq}
+use native.Mathlib.Omega.{arith}
+use mathlib.Core.Bool.{true, false, _||_}
+use mathlib.Core.Path.{_≡_}
+use mathlib.Core.List.{List, [], append-nil}
+use borrow.Author.Needs.{needs}
+use borrow.Rule.Slice.PartMut.{midOf, putMid}
+use lib.Dec.{eqb, leb}
+use lib.ListN.{length, drop, length-drop, drop-of-length-le}
+use lib.Seq.{take-all}
+use Rattle.log.specs.declared.Record.{Record}
+use Rattle.log.specs.Stores.{Store, storedUnder, shifted}
+use Rattle.log.specs.Layout.{tornBit, slotStores}
+use Rattle.log.specs.Region.{numbers, placeOf, recordStores}
+use Rattle.log.proofs.Stored.{under-none, under-part}
+use Rattle.log.proofs.Sizes.{Sized, sized, slot-within, turned, some-slots}
+use Rattle.log.proofs.region.append.Statement.{statement}
+use Rattle.log.proofs.region.append.Tie as tie
+
+-- where the number is turned away, there are no stores
+none : (l n : ℕ) (r : Record) → eqb l 0 || leb numbers n ≡ true → recordStores l n r ≡ []
+unfolding recordStores
+none l n r e = rw (turned l n, e)
+
+-- elsewhere they are those of the slot
+some : (l n : ℕ) (r : Record) → eqb l 0 || leb numbers n ≡ false → recordStores l n r ≡ shifted (placeOf l n) (slotStores (tornBit l n) r)
+unfolding recordStores
+some l n r e = rw (turned l n, e)
+
+-- the log, when the part that was lent from base on is back with these stores made in it
+put-back : (c base : ℕ) (xs ys : List ℕ) (ss : List Store) → base ≤ length xs → ys ≡ storedUnder c (midOf base (length xs - base) xs) ss
+    → putMid base (length xs - base) xs ys ≡ storedUnder c xs (shifted base ss)
+put-back c base xs ys ss h e =
+    let short : length (drop base xs) ≤ length xs - base = le-of-eq (length-drop base xs) in
+    simp
+    (e, take-all (length xs - base) (drop base xs) short, drop-of-length-le (drop base xs) short, append-nil)
+    (under-part c base xs ss h)
+
+slots-requires : tie.Need-slots-requires
+slots-requires c κs = search needs
+
+same-length : tie.Need-same-length
+same-length c = search needs
+
+returns : tie.Need-returns
+returns c =
+    let a = c .before .before .before .before .args in
+    let l = c .before .slots in
+    rw (← l .ensures) (under-none (a .supply) (a .log .now) _ (none (l .result) (a .number) (a .entry) (c .if1 .taken)))
+
+-- the log's size, where the number was not turned away
+size : (c : tie.Else1) → Sized (length (c .before .before .before .before .args .log .now)) (c .before .slots .result)
+size c = sized _ _ (c .before .slots .ensures) (some-slots (c .before .slots .result) (c .before .before .before .before .args .number) (c .if1 .left))
+
+-- the part that is lent begins within the log
+within : (c : tie.After-place) → c .place .result + 2 < length (c .before .before .before .before .before .before .args .log .now)
+within c = rw (c .place .ensures) (slot-within _ _ (c .before .before .before .before .before .before .args .number) (size (c .before .before)))
+
+torn-bit-requires : tie.Need-torn-bit-requires
+torn-bit-requires c κs = let s = size c in omega arith
+
+place-requires : tie.Need-place-requires
+place-requires c κs = let s = size (c .before) in omega arith
+
+mul-write : tie.Need-mul-write
+mul-write c = let s = size (c .before .before) in omega (arith, within c)
+
+sub-write : tie.Need-sub-write
+sub-write c = omega (arith, within c)
+
+part-write-start : tie.Need-part-write-start
+part-write-start c = omega (arith, within c)
+
+part-write-end : tie.Need-part-write-end
+part-write-end c = search needs
+
+write-requires : tie.Need-write-requires
+write-requires c κs = search needs
+
+same-length-2 : tie.Need-same-length-2
+same-length-2 c = search needs
+
+returns-2 : tie.Need-returns-2
+unfolding slotStores
+returns-2 c =
+    let placed = c .before .before .before .before in
+    let passed = placed .before .before in
+    let a = passed .before .before .before .before .args in
+    let base : placed .place .result ≤ length (a .log .now) = omega (arith, within placed) in
+    rw (
+      ← passed .before .slots .ensures,
+      some (passed .before .slots .result) (a .number) (a .entry) (passed .if1 .left),
+      ← placed .place .ensures,
+      ← placed .before .torn-bit .ensures,
+    )
+    (c .before .before .write .ensures .0, put-back (a .supply) _ (a .log .now) _ _ base (c .before .before .write .ensures .1))
+
+pub append-spec : {M : Type 1} → statement M
+append-spec =
+    tie.close
+    (tie.spec
+    slots-requires
+    same-length
+    returns
+    torn-bit-requires
+    place-requires
+    mul-write
+    sub-write
+    part-write-start
+    part-write-end
+    write-requires
+    same-length-2
+    returns-2)

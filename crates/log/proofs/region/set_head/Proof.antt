@@ -1,0 +1,49 @@
+-- `region::set_head` meets its contract: the one store is made where the log has slots.
+use Prim.Native.Nat.{ℕ, _<_}
+use native.Mathlib.Omega.{arith}
+use mathlib.Core.Path.{_≡_}
+use mathlib.Core.List.{[], _∷_}
+use borrow.Author.Needs.{needs}
+use borrow.Author.Tests.{lt-ltb}
+use Rattle.log.specs.Region.{headStores}
+use Rattle.log.proofs.Stored.{under-none}
+use Rattle.log.proofs.region.set_head.Statement.{statement}
+use Rattle.log.proofs.region.set_head.Tie as tie
+
+-- no slots, no stores
+none : (l n : ℕ) → l ≡ 0 → headStores l n ≡ []
+unfolding headStores
+none l n e = rw e
+
+-- else the head is stored
+one : (l n : ℕ) → (l ≡ 0 → ⊥) → headStores l n ≡ record { at = 0; value = n } ∷ []
+unfolding headStores
+one l n h = let some : 0 < l = omega arith in rw (lt-ltb 0 l some)
+
+slots-requires : tie.Need-slots-requires
+slots-requires c κs = search needs
+
+same-length : tie.Need-same-length
+same-length c = search needs
+
+returns : tie.Need-returns
+returns c =
+    let a = c .before .before .before .before .args in
+    let l = c .before .slots in
+    rw (← l .ensures) (under-none (a .supply) (a .log .now) _ (none (l .result) (a .number) (c .if1 .taken)))
+
+store-requires : tie.Need-store-requires
+store-requires c κs = search needs
+
+same-length-2 : tie.Need-same-length-2
+same-length-2 c = search needs
+
+returns-2 : tie.Need-returns-2
+returns-2 c =
+    rw
+    (← c .before .before .before .before .before .slots .ensures, one _ _ (c .before .before .before .before .if1 .left))
+    (c .before .before .store .ensures)
+
+pub set-head-spec : {M : Type 1} → statement M
+set-head-spec =
+    tie.close (tie.spec slots-requires same-length returns store-requires same-length-2 returns-2)

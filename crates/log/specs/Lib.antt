@@ -1,0 +1,5 @@
+-- The log region: what a store, a record, a slot and the region are.
+pub mod Stores
+pub mod Layout
+pub mod Region
+pub mod Holding

@@ -1,0 +1,88 @@
+-- What a list of stores leaves in a word: the value of the last store to it, if there is one.
+use Prim.Native.Nat.{ℕ, _<_}
+use mathlib.Core.Path.{_≡_, refl, sym, _∙_, ap}
+use mathlib.Core.Bool.{cond}
+use mathlib.Core.List.{List, [], _∷_, _++_}
+use mathlib.Core.Option.{Option, none, some, Option·getD}
+use native.Mathlib.Decide.{ℕ-discrete}
+use borrow.Author.Tests.{eq-eqb, ne-eqb}
+use lib.Dec.{eqb}
+use lib.ListN.{length, getD, set}
+use lib.Seq.{lt-length-set, getD-set-same, getD-set-other}
+use Rattle.log.specs.Stores.{Store, stored}
+use Rattle.model.specs.Book.{updated, settled}
+
+-- the first of two that is there
+abbrev pub first : Option ℕ → Option ℕ → Option ℕ
+first none b = b
+first (some a) b = some a
+
+-- the value, or another where there is none
+abbrev pub or : Option ℕ → ℕ → ℕ
+or o v = Option·getD o v
+
+-- what one store leaves in word w
+abbrev pub onlyTo : ℕ → Store → Option ℕ
+onlyTo w s = cond (eqb (s .at) w) (some (s .value)) none
+
+-- what a list of stores leaves in word w
+unfoldable pub lastTo : ℕ → List Store → Option ℕ
+lastTo w [] = none
+lastTo w (s ∷ ss) = first (lastTo w ss) (onlyTo w s)
+
+-- a choice of two is two choices
+pub or-first : (a b : Option ℕ) (v : ℕ) → or (first a b) v ≡ or a (or b v)
+or-first none b v = refl
+or-first (some a) b v = refl
+
+-- to choose the first is a monoid
+pub first-none : (a : Option ℕ) → first a none ≡ a
+first-none none = refl
+first-none (some a) = refl
+
+pub first-assoc : (a b c : Option ℕ) → first (first a b) c ≡ first a (first b c)
+first-assoc none b c = refl
+first-assoc (some a) b c = refl
+
+-- of two lists of stores the second one counts first
+pub last-append : (w : ℕ) (xs ys : List Store) → lastTo w (xs ++ ys) ≡ first (lastTo w ys) (lastTo w xs)
+unfolding lastTo
+last-append w [] ys = sym (first-none (lastTo w ys))
+last-append w (x ∷ xs) ys =
+    ap (λ (o : Option ℕ). first o (onlyTo w x)) (last-append w xs ys) ∙ first-assoc (lastTo w ys) (lastTo w xs) (onlyTo w x)
+
+-- a word after one store
+pub set-word : (w : ℕ) (home : List ℕ) (s : Store) → w < length home
+    → getD (set home (s .at) (s .value)) w 0 ≡ or (onlyTo w s) (getD home w 0)
+set-word w home s h =
+    elim (ℕ-discrete (s .at) w) [
+      | yes e ↦ rw (eq-eqb (s .at) w e, e) (getD-set-same home w (s .value) 0 h)
+      | no ne ↦ rw (ne-eqb (s .at) w ne) (getD-set-other home (s .at) w (s .value) 0 (λ e. ne (sym e)))
+    ]
+
+-- a word after a list of stores
+pub stored-word : (w : ℕ) (home : List ℕ) (ss : List Store) → w < length home
+    → getD (stored home ss) w 0 ≡ or (lastTo w ss) (getD home w 0)
+unfolding stored lastTo
+stored-word w home [] h = refl
+stored-word w home (s ∷ ss) h =
+    stored-word w (set home (s .at) (s .value)) ss (lt-length-set home (s .at) (s .value) h)
+    ∙ ap (or (lastTo w ss)) (set-word w home s h)
+    ∙ sym (or-first (lastTo w ss) (onlyTo w s) (getD home w 0))
+
+-- a committed value after one store is settled
+updated-word : (w : ℕ) (f : ℕ → ℕ) (s : Store) → updated f (s .at) (s .value) w ≡ or (onlyTo w s) (f w)
+updated-word w f s =
+    elim (ℕ-discrete (s .at) w) [
+      | yes e ↦ rw (eq-eqb (s .at) w e, eq-eqb w (s .at) (sym e))
+      | no ne ↦ rw (ne-eqb (s .at) w ne, ne-eqb w (s .at) (λ e. ne (sym e)))
+    ]
+
+-- a committed value after a list of stores is settled
+pub settled-word : (w : ℕ) (f : ℕ → ℕ) (ss : List Store) → settled f ss w ≡ or (lastTo w ss) (f w)
+unfolding settled lastTo
+settled-word w f [] = refl
+settled-word w f (s ∷ ss) =
+    settled-word w (updated f (s .at) (s .value)) ss
+    ∙ ap (or (lastTo w ss)) (updated-word w f s)
+    ∙ sym (or-first (lastTo w ss) (onlyTo w s) (f w))

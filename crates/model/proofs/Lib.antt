@@ -1,0 +1,26 @@
+-- What is proved of the definitions.
+pub mod Scenarios
+pub mod Lists
+pub mod LastTo
+pub mod Own
+pub mod Records
+pub mod Lines
+pub mod Entries
+pub mod Core
+pub mod Words
+pub mod Logging
+pub mod Storing
+pub mod Evicting
+pub mod Newest
+pub mod Committing
+pub mod Homeward
+pub mod Deleting
+pub mod Consistency
+pub mod Worlds
+pub mod Performing
+pub mod Steps
+pub mod Outcomes
+pub mod Fit
+pub mod EachStep
+pub mod Recovering
+pub mod WholeList

@@ -1,0 +1,53 @@
+-- Laws of lists and tests: a property of every element, the first ones of a mapped list, the halves of a test.
+use Prim.Native.Nat.{ℕ, zero, suc, _<_}
+use native.Mathlib.Omega.{arith}
+use mathlib.Core.Path.{_≡_, refl, ap}
+use mathlib.Core.Bool.{Bool, true, false, cond, _&&_, false≢true}
+use mathlib.Core.List.{List, [], _∷_, map}
+use lib.ListN.{take}
+use Rattle.log.specs.Holding.{Every}
+use Rattle.log.proofs.Holding.{every-append}
+use Rattle.parts.specs.Listed.{listed}
+use Rattle.model.specs.Lists.{keep}
+
+-- a property that follows from another holds of every element that has the other
+pub every-implied : {A : Type 0} (P Q : A → Type 0) (xs : List A) → ((x : A) → P x → Q x) → Every P xs → Every Q xs
+every-implied P Q [] f every = tt
+every-implied P Q (x ∷ xs) f every = (f x (every .0), every-implied P Q xs f (every .1))
+
+-- what holds of each element that passes a test holds of every one kept
+pub every-kept : {A : Type 0} (P : A → Type 0) (f : A → Bool) (xs : List A) → Every (λ x. f x ≡ true → P x) xs → Every P (keep f xs)
+unfolding keep
+every-kept P f [] every = tt
+every-kept P f (x ∷ xs) every =
+    (elim (f x) as (λ (t : Bool). (t ≡ true → P x) → Every P (cond t (x ∷ keep f xs) (keep f xs))) [
+      | true ↦ λ q. (q refl, every-kept P f xs (every .1))
+      | false ↦ λ q. every-kept P f xs (every .1)
+    ]) (every .0)
+
+-- what holds of each element up to n holds of every one listed
+pub every-listed : {A : Type 0} (P : A → Type 0) (n : ℕ) (f : ℕ → A) → ((i : ℕ) → i < n → P (f i)) → Every P (listed n f)
+unfolding listed
+every-listed P zero f each = tt
+every-listed P (suc n) f each =
+    every-append P (listed n f) (f n ∷ []) (every-listed P n f (λ i h. each i (omega arith))) (each n (omega arith), tt)
+
+-- what holds of the images of every element holds of every image
+pub every-mapped : {A B : Type 0} (P : B → Type 0) (f : A → B) (xs : List A) → Every (λ x. P (f x)) xs → Every P (map f xs)
+every-mapped P f [] every = tt
+every-mapped P f (x ∷ xs) every = (every .0, every-mapped P f xs (every .1))
+
+-- the first n images are those of the first n elements
+pub take-map : {A B : Type 0} (f : A → B) (n : ℕ) (xs : List A) → take n (map f xs) ≡ map f (take n xs)
+take-map f zero xs = refl
+take-map f (suc n) [] = refl
+take-map {B} f (suc n) (x ∷ xs) = ap (λ (r : List B). f x ∷ r) (take-map f n xs)
+
+-- the halves of a test that passes
+pub both-left : (a b : Bool) → (a && b) ≡ true → a ≡ true
+both-left true b h = refl
+both-left false b h = absurd (false≢true h)
+
+pub both-right : (a b : Bool) → (a && b) ≡ true → b ≡ true
+both-right true b h = h
+both-right false b h = absurd (false≢true h)

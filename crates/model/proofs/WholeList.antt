@@ -1,0 +1,191 @@
+-- The claim about every list of steps.
+use Prim.Native.Nat.{ℕ, zero, suc, _+_, _*_, _%_, _^_, _≤_, _<_}
+use mathlib.Core.Path.{_≡_, refl, sym, _∙_, ap, subst}
+use mathlib.Core.Bool.{Bool, true, false, cond, _&&_, false≢true}
+use mathlib.Core.List.{List, [], _∷_, _++_}
+use mathlib.Core.Logic.{_⊎_, inl, inr}
+use native.Mathlib.Omega.{arith}
+use borrow.Author.Tests.{leb-true}
+use lib.Dec.{leb, eqb}
+use lib.ListN.{length, getD, replicate, length-append}
+use Rattle.log.specs.declared.Record.{Record}
+use Rattle.log.specs.declared.Record.the-variants.{UndoRedo, Redo, Commit}
+use Rattle.log.specs.Stores.{Store, stored}
+use Rattle.log.specs.Region.{headStores}
+use Rattle.log.specs.Holding.{Holds}
+use Rattle.log.proofs.Holding.{zeros}
+use Rattle.model.specs.Machine.{Machine, Memory, freshMachine}
+use Rattle.model.specs.Consistent.{isWidth, consistentWith}
+use Rattle.model.specs.Plan.{Outcome}
+use Rattle.model.specs.Recovery.{closed, redoWrites, undoWrites, recoveryWrites, redoOfClosed, undoOfOpen}
+use Rattle.model.specs.Step.{Step, begin, store, logUndo, logRedo, evict, writeBack, commit, deleteOldest, recover, stepped}
+use Rattle.model.specs.Book.{Book, openedBook, entered, noted}
+use Rattle.model.specs.Run.{Timed, World, after, HomeCommitted, Faithful, start, Sized, WholeListClaim, ran, Recoverable, RecoverableClaim}
+use Rattle.model.proofs.Lists.{both-left, both-right}
+use Rattle.model.proofs.LastTo.{lastTo}
+use Rattle.model.proofs.Core.{Safe}
+use Rattle.model.proofs.Worlds.{Kept, Live, Ready, live, dark, Ends, finished, stopped, live-kept}
+use Rattle.model.proofs.Performing.{enough}
+use Rattle.model.proofs.Steps.{ends-ready}
+use Rattle.model.proofs.EachStep.{begin-ready, store-ready, logUndo-ready, logRedo-ready, evict-ready, writeBack-ready, commit-ready, delete-ready, head-store}
+use Rattle.model.proofs.Recovering.{recovered, recover-ends, recover-faithful}
+use Rattle.model.proofs.Consistency.{core-consistent}
+
+-- a world that is ready for recovery
+abbrev ReadyWorld : ℕ → World → Type 0
+ReadyWorld l w = Ready l (w .machine) (w .memory) (w .book)
+
+ready-kept : {l : ℕ} (m : Machine) (mem : Memory) (b : Book) → Ready l m mem b → Kept l mem (b .committed)
+ready-kept m mem b (live world) = live-kept m mem b world
+ready-kept m mem b (dark lost kept) = kept
+
+-- a recovery writes nothing into the book
+recover-noted : (n : ℕ) (b : Book) → noted recover n b ≡ b
+unfolding noted entered
+recover-noted n b = pick (eqb n 0)
+  where
+    pick : (t : Bool) → cond t b b ≡ b
+    pick true = refl
+    pick false = refl
+
+recover-ready : {l : ℕ} (c : ℕ) (m : Machine) (mem : Memory) (b : Book) → Kept l mem (b .committed)
+    → Ready l (stepped recover c m mem .machine) (stepped recover c m mem .memory) (noted recover (stepped recover c m mem .answer) b)
+unfolding entered
+recover-ready c m mem b kept = ends-ready recover (stepped recover c m mem) b (recover-ends c m mem b kept)
+
+-- every step leaves the world ready
+step-ready : {l : ℕ} (s : Step) (c : ℕ) (m : Machine) (mem : Memory) (b : Book) → Ready l m mem b
+    → Ready l (stepped s c m mem .machine) (stepped s c m mem .memory) (noted s (stepped s c m mem .answer) b)
+step-ready (begin t) c m mem b ready = begin-ready c m mem b ready t
+step-ready (store t w v) c m mem b ready = store-ready c m mem b ready t w v
+step-ready logUndo c m mem b ready = logUndo-ready c m mem b ready
+step-ready logRedo c m mem b ready = logRedo-ready c m mem b ready
+step-ready (evict i) c m mem b ready = evict-ready c m mem b ready i
+step-ready (writeBack i) c m mem b ready = writeBack-ready c m mem b ready i
+step-ready (commit t) c m mem b ready = commit-ready c m mem b ready t
+step-ready deleteOldest c m mem b ready = delete-ready c m mem b ready
+step-ready recover c m mem b ready = recover-ready c m mem b (ready-kept m mem b ready)
+
+after-ready : {l : ℕ} (w : World) (s : Timed) → ReadyWorld l w → ReadyWorld l (after w s)
+unfolding after
+after-ready w s ready = step-ready (s .step) (s .supply) (w .machine) (w .memory) (w .book) ready
+
+-- a recovery answered done, in a world whose buffers are kept
+home-committed : {l : ℕ} (w : World) (s : Timed) → Kept l (w .memory) (w .book .committed) → s .step ≡ recover
+    → stepped (s .step) (s .supply) (w .machine) (w .memory) .answer ≡ 0 → HomeCommitted (after w s)
+unfolding after
+home-committed {l} w s kept e = subst Claim (sym e) ofRecover
+  where
+    Claim : Step → Type 0
+    Claim st =
+        stepped st (s .supply) (w .machine) (w .memory) .answer ≡ 0
+        → HomeCommitted (record {
+          machine = stepped st (s .supply) (w .machine) (w .memory) .machine;
+          memory = stepped st (s .supply) (w .machine) (w .memory) .memory;
+          book = noted st (stepped st (s .supply) (w .machine) (w .memory) .answer) (w .book);
+        })
+
+    ofRecover : Claim recover
+    ofRecover d i h =
+        recover-faithful (s .supply) (w .machine) (w .memory) (w .book) kept d i h
+        ∙ ap (λ (b : Book). b .committed i) (sym (recover-noted (stepped recover (s .supply) (w .machine) (w .memory) .answer) (w .book)))
+
+faithful : {l : ℕ} (w : World) (steps : List Timed) → ReadyWorld l w → Faithful w steps
+faithful w [] ready = tt
+faithful w (s ∷ ss) ready =
+    (home-committed w s (ready-kept (w .machine) (w .memory) (w .book) ready), faithful (after w s) ss (after-ready w s ready))
+
+narrow : (n : ℕ) → isWidth n ≡ true → n ≤ 2 ^ 48
+narrow n e = let h = leb-true n 512 (both-left (leb n 512) (eqb (n % 8) 0) (both-right (leb 8 n) (leb n 512 && eqb (n % 8) 0) e)) in omega arith
+
+-- the buffers at the start: a fresh log holds no record
+start-kept : (l : ℕ) (home working : List ℕ) (m : Machine) → Sized l home working
+    → Kept l (start m home working l .memory) (openedBook home .committed)
+unfolding Safe lastTo undoWrites redoWrites
+start-kept l home working m sized =
+    record {
+      rs = [];
+      head = 0;
+      width = sized .width;
+      working = sized .alike;
+      holds = zeros (length home) l (narrow (length home) (sized .width)) (sized .least) (sized .most);
+      safe = λ w h. refl;
+    }
+
+pub whole-list : WholeListClaim
+unfolding after
+whole-list l home working sized m c steps =
+    let w : World = start m home working l in
+    let s : Timed = record { step = recover; supply = c } in
+    let kept = start-kept l home working m sized in
+    (home-committed w s kept, faithful (after w s) steps (recover-ready c m (w .memory) (w .book) kept))
+
+-- recovery writes at most one word for each record
+one-of-two : (c : Bool) (x y : Store) → length (cond c (x ∷ []) []) + length (cond c [] (y ∷ [])) ≤ 1
+one-of-two true x y = omega arith
+one-of-two false x y = omega arith
+
+one-write : (r : Record) (later : List Record) → length (redoOfClosed r later) + length (undoOfOpen r later) ≤ 1
+one-write (UndoRedo t w u r) later = one-of-two (closed t later) (record { at = w; value = r }) (record { at = w; value = u })
+one-write (Redo t w r) later =
+    let h = one-of-two (closed t later) (record { at = w; value = r }) (record { at = w; value = r }) in
+    omega arith
+one-write (Commit t) later = omega arith
+
+few-writes : (rs : List Record) → length (redoWrites rs) + length (undoWrites rs) ≤ length rs
+unfolding redoWrites undoWrites
+few-writes [] = omega arith
+few-writes (r ∷ rs) =
+    let rest = few-writes rs in
+    let one = one-write r rs in
+    simp length-append (omega arith)
+
+ready-sound : {l : ℕ} (m : Machine) (mem : Memory) (b : Book) → Ready l m mem b
+    → (m .lost ≡ true) ⊎ (consistentWith m (mem .log) ≡ true)
+ready-sound m mem b (live world) =
+    inr
+    (core-consistent m (mem .home) (mem .working) b (world .rs) (mem .log) (world .core) (world .width)
+    (rw (world .slots) (world .holds .least))
+    (rw (world .slots) (world .holds .most))
+    (world .holds .numbered)
+    (rw (world .slots) (world .holds .room))
+    (world .tail)
+    (world .holds .first))
+ready-sound m mem b (dark lost kept) = inl lost
+
+ends-answer : {l : ℕ} (o : Outcome) (b book : Book) → Ends l o b book → (o .answer ≡ 0) ⊎ (o .answer ≡ 255)
+ends-answer o b book (finished e world) = inl e
+ends-answer o b book (stopped e lost kept) = inr e
+
+enough-supply : {l : ℕ} (c : ℕ) (m : Machine) (mem : Memory) (b : Book) → Kept l mem (b .committed) → l + 1 ≤ c → stepped recover c m mem .answer ≡ 0
+enough-supply {l} c m mem b kept h =
+    let n : ℕ = kept .head + length (kept .rs) in
+    let few = few-writes (kept .rs) in
+    let room = kept .holds .room in
+    let least = kept .holds .least in
+    let one = ap length (head-store l n (omega arith)) in
+    ap (λ (o : Outcome). o .answer) (recovered c m mem b kept)
+    ∙ enough c mem (recoveryWrites (kept .rs)) (headStores l n) (freshMachine (length (mem .home)) l n) (stored (mem .home) (recoveryWrites (kept .rs)))
+    (simp length-append (omega arith))
+
+recoverable : {l : ℕ} (w : World) → ReadyWorld l w → Recoverable l w
+recoverable w ready =
+    let kept = ready-kept (w .machine) (w .memory) (w .book) ready in
+    record {
+      never-refused =
+          λ c. ends-answer (stepped recover c (w .machine) (w .memory)) (w .book) (w .book) (recover-ends c (w .machine) (w .memory) (w .book) kept);
+      done-with = λ c h. enough-supply c (w .machine) (w .memory) (w .book) kept h;
+      sound = ready-sound (w .machine) (w .memory) (w .book) ready;
+    }
+
+ran-ready : {l : ℕ} (w : World) (steps : List Timed) → ReadyWorld l w → ReadyWorld l (ran w steps)
+unfolding ran
+ran-ready w [] ready = ready
+ran-ready w (s ∷ ss) ready = ran-ready (after w s) ss (after-ready w s ready)
+
+pub always-recoverable : RecoverableClaim
+unfolding ran after
+always-recoverable l home working sized m c steps =
+    let w : World = start m home working l in
+    let s : Timed = record { step = recover; supply = c } in
+    recoverable (ran (after w s) steps) (ran-ready (after w s) steps (recover-ready c m (w .memory) (w .book) (start-kept l home working m sized)))

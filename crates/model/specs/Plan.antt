@@ -1,0 +1,81 @@
+-- What a step is about to do, its one list of stores, and how much of it the supply allows.
+use Prim.Native.Nat.{ℕ, _+_, _-_}
+use mathlib.Core.Bool.{Bool, true, false, cond}
+use mathlib.Core.List.{List, [], _∷_, _++_, map}
+use lib.Dec.{eqb, leb}
+use lib.ListN.{length, take, replicate}
+use Rattle.log.specs.declared.Record.{Record}
+use Rattle.log.specs.Stores.{Store, stored}
+use Rattle.log.specs.Region.{slotsOf, recordStores, headStores}
+use Rattle.model.specs.Machine.{Machine, Memory, lostMachine}
+
+-- what a step writes: a record at the end of the log, a home word, the head
+pub data Op : Type 0 where
+  append : Record → Op
+  writeHome : Store → Op
+  setHead : ℕ → Op
+
+-- one store, to home or log
+pub data Put : Type 0 where
+  inHome : Store → Put
+  inLog : Store → Put
+
+-- "The step's stores form one list": l is L, and n the number that the next record gets
+unfoldable pub putsOf : ℕ → ℕ → List Op → List Put
+putsOf l n [] = []
+putsOf l n (append r ∷ ops) = map inLog (recordStores l n r) ++ putsOf l (n + 1) ops
+putsOf l n (writeHome s ∷ ops) = inHome s ∷ putsOf l n ops
+putsOf l n (setHead k ∷ ops) = map inLog (headStores l k) ++ putsOf l n ops
+
+-- the stores of a list that go to home, and those that go to the log
+unfoldable pub homePart : List Put → List Store
+homePart [] = []
+homePart (inHome s ∷ ps) = s ∷ homePart ps
+homePart (inLog s ∷ ps) = homePart ps
+
+unfoldable pub logPart : List Put → List Store
+logPart [] = []
+logPart (inHome s ∷ ps) = logPart ps
+logPart (inLog s ∷ ps) = s ∷ logPart ps
+
+-- A step is refused under a number, or it is planned: what it writes, the state after it, and the working words after it.
+pub data Plan : Type 0 where
+  refused : ℕ → Plan
+  planned : List Op → Machine → List ℕ → Plan
+
+-- What a step hands back: the answer, the count left, the state and the buffers.
+pub record Outcome : Type 0 where
+  pub answer : ℕ
+  pub left : ℕ
+  pub machine : Machine
+  pub memory : Memory
+
+-- "0 (done)" and "255 (cut)"
+abbrev pub done : ℕ
+done = 0
+
+abbrev pub cut : ℕ
+cut = 255
+
+-- the memory after these stores, with these working words
+unfoldable pub written : Memory → List Put → List ℕ → Memory
+written mem ps working =
+    record { home = stored (mem .home) (homePart ps); working = working; log = stored (mem .log) (logPart ps) }
+
+-- "If it is longer than the count c, its first c are made, the answer is 255 (cut), the count left is 0, all working words
+-- become 0, and the returned state is dark. Otherwise all are made, the answer is 0 (done), and c less the number of stores is left."
+unfoldable pub performed : ℕ → Memory → List Put → Machine → List ℕ → Outcome
+performed c mem ps next working =
+    cond (leb (length ps) c)
+    (record { answer = done; left = c - length ps; machine = next; memory = written mem ps working })
+    (record {
+      answer = cut;
+      left = 0;
+      machine = lostMachine;
+      memory = written mem (take c ps) (replicate (length (mem .working)) 0);
+    })
+
+-- "State, buffers and count are unchanged" where a step is refused; n is the number of the next record
+unfoldable pub carriedOut : ℕ → Machine → Memory → ℕ → Plan → Outcome
+carriedOut c m mem n (refused k) = record { answer = k; left = c; machine = m; memory = mem }
+carriedOut c m mem n (planned ops next working) = performed c mem (putsOf (slotsOf (mem .log)) n ops) next working

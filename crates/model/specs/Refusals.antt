@@ -1,0 +1,123 @@
+-- Document 01, "Refused": the numbers, and the tests that several steps share.
+use Prim.Native.Nat.{ℕ, _+_, _-_, _/_}
+use mathlib.Core.Bool.{Bool, true, false, cond, _&&_, _||_, not}
+use mathlib.Core.List.{List, [], _∷_, _++_}
+use lib.Dec.{eqb, ltb, leb}
+use lib.ListN.{length}
+use Rattle.log.specs.declared.Record.{Record}
+use Rattle.log.specs.Region.{numbers, slotsOf}
+use Rattle.parts.specs.States.{Dirty}
+use Rattle.model.specs.Lists.{any}
+use Rattle.model.specs.Machine.{Machine, Memory, freeSlots, isOpen, stateIn, wordsOf}
+use Rattle.model.specs.Consistent.{isWidth, consistentWith}
+use Rattle.model.specs.Plan.{Plan, refused}
+
+-- the table's numbers; `lost` is its "dark", `inconsistent` its "unsound", `exhausted` its "worn"
+abbrev pub size : ℕ
+size = 1
+
+abbrev pub lost : ℕ
+lost = 2
+
+abbrev pub inconsistent : ℕ
+inconsistent = 3
+
+abbrev pub thread : ℕ
+thread = 4
+
+abbrev pub place : ℕ
+place = 5
+
+abbrev pub idle : ℕ
+idle = 6
+
+abbrev pub busy : ℕ
+busy = 7
+
+abbrev pub held : ℕ
+held = 8
+
+abbrev pub pending : ℕ
+pending = 9
+
+abbrev pub full : ℕ
+full = 10
+
+abbrev pub exhausted : ℕ
+exhausted = 11
+
+abbrev pub nothing : ℕ
+nothing = 12
+
+abbrev pub headTooHigh : ℕ
+headTooHigh = 13
+
+abbrev pub damaged : ℕ
+damaged = 14
+
+abbrev pub needed : ℕ
+needed = 15
+
+-- a row of the table: when a step is refused, and under which number
+pub record Row : Type 0 where
+  pub applies : Bool
+  pub number : ℕ
+
+abbrev pub row : Bool → ℕ → Row
+row t n = record { applies = t; number = n }
+
+-- "The lowest number that applies is given": the rows stand in rising order
+unfoldable pub unless : List Row → Plan → Plan
+unless [] p = p
+unless (r ∷ rs) p = cond (r .applies) (refused (r .number)) (unless rs p)
+
+-- the number under which a step is refused, or 0
+unfoldable pub numberOf : List Row → ℕ
+numberOf [] = 0
+numberOf (r ∷ rs) = cond (r .applies) (r .number) (numberOf rs)
+
+-- "a lent length is outside the limits, home and working differ in length"
+unfoldable pub wrongLengths : Memory → Bool
+wrongLengths mem =
+    not (isWidth (length (mem .home))) ||
+    (not (eqb (length (mem .working)) (length (mem .home))) || eqb (slotsOf (mem .log)) 0)
+
+-- "or, unless the state is dark, a length differs from the state's W or L"
+unfoldable pub wrongSize : Machine → Memory → Bool
+wrongSize m mem =
+    wrongLengths mem ||
+    (not (m .lost) && (not (eqb (length (mem .home)) (m .words)) || not (eqb (slotsOf (mem .log)) (m .slots))))
+
+-- the rows of every step that is lent the buffers and takes a state
+abbrev pub common : Machine → Memory → List Row
+common m mem =
+    row (wrongSize m mem) size
+    ∷ row (m .lost) lost
+    ∷ row (not (consistentWith m (mem .log))) inconsistent
+    ∷ []
+
+-- "number above 7"
+abbrev pub unknownThread : ℕ → Row
+unknownThread t = row (ltb 7 t) thread
+
+-- "word not below W", and "line not below W/8"
+abbrev pub unknownWord : Machine → ℕ → Row
+unknownWord m w = row (leb (m .words) w) place
+
+abbrev pub unknownLine : Machine → ℕ → Row
+unknownLine m i = row (leb (m .words / 8) i) place
+
+-- "store or commit without an open transaction"
+abbrev pub notOpen : Machine → ℕ → Row
+notOpen m t = row (not (isOpen m t)) idle
+
+-- "a line with a Dirty word"
+unfoldable pub isPending : Machine → ℕ → Bool
+isPending m i = any (λ w. eqb (stateIn (m .lines) w) Dirty) (wordsOf i)
+
+-- "the step's records outnumber the free slots", and "a record would get a number of 2^48 or more"
+abbrev pub noRoom : Machine → List Record → List Row
+noRoom m records =
+    row (ltb (freeSlots m) (length records)) full
+    ∷ row (ltb 0 (length records) && ltb numbers (m .tail + length records)) exhausted
+    ∷ []

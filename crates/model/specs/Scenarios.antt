@@ -1,0 +1,211 @@
+-- Document 01, "Benches to try": P1 to P11 as a table of worked scenarios, each with all that the paper says of it; after them a scenario for
+-- each entry of "Plausible, and wrong" and for the edges of the supply, the free slots and a delete.
+use Prim.Native.Nat.{ℕ, _+_, _-_, _*_, _^_}
+use mathlib.Core.Bool.{Bool, true, false, _&&_}
+use mathlib.Core.List.{List, [], _∷_, _++_}
+use lib.Dec.{eqb}
+use lib.ListN.{length, getD, replicate}
+use Rattle.log.specs.Stores.{Store}
+use Rattle.model.specs.Lists.{all}
+use Rattle.model.specs.Machine.{Memory, lostMachine}
+use Rattle.model.specs.Step.{Step, begin, store, logUndo, logRedo, evict, writeBack, commit, deleteOldest, recover}
+use Rattle.model.specs.Book.{openedBook}
+use Rattle.model.specs.Run.{World, Timed, outcome, after}
+
+-- a step under a supply, the answer that is expected, and the number of stores made
+pub record Line : Type 0 where
+  pub timed : Timed
+  pub answer : ℕ
+  pub stores : ℕ
+
+-- the log's head at first, the steps, and what is expected at the end: words of the log by their place, word 0 of home and of working
+pub record Scenario : Type 0 where
+  pub head : ℕ
+  pub steps : List Line
+  pub log : List Store
+  pub home : ℕ
+  pub working : ℕ
+
+-- "ample supply (2^64 − 1)"
+abbrev pub ample : ℕ
+ample = 2 ^ 64 - 1
+
+abbrev pub under : ℕ → Step → ℕ → ℕ → Line
+under c s answer stores = record { timed = record { step = s; supply = c }; answer = answer; stores = stores }
+
+abbrev pub line : Step → ℕ → ℕ → Line
+line = under ample
+
+-- "W = 8, L = 8, home 0, fresh log", but for the head
+abbrev pub startOf : Scenario → World
+startOf s =
+    record {
+      machine = lostMachine;
+      memory = record { home = replicate 8 0; working = replicate 8 0; log = s .head ∷ replicate 24 0 };
+      book = openedBook (replicate 8 0);
+    }
+
+unfoldable pub linesPass : World → List Line → Bool
+linesPass w [] = true
+linesPass w (x ∷ xs) =
+    (eqb (outcome w (x .timed) .answer) (x .answer) &&
+    eqb (x .timed .supply - outcome w (x .timed) .left) (x .stores)) &&
+    linesPass (after w (x .timed)) xs
+
+unfoldable pub end : World → List Line → World
+end w [] = w
+end w (x ∷ xs) = end (after w (x .timed)) xs
+
+unfoldable pub passes : Scenario → Bool
+passes s =
+    let last = end (startOf s) (s .steps) .memory in
+    linesPass (startOf s) (s .steps) &&
+    (all (λ x. eqb (getD (last .log) (x .at) 0) (x .value)) (s .log) &&
+    (eqb (getD (last .home) 0 0) (s .home) && eqb (getD (last .working) 0 0) (s .working)))
+
+-- word 0 of the log is the head; slot s is words 1+3s, 2+3s and 3+3s
+abbrev pub headIs : ℕ → Store
+headIs n = record { at = 0; value = n }
+
+abbrev pub slotIs : ℕ → ℕ → ℕ → ℕ → List Store
+slotIs s u r h =
+    record { at = 1 + 3 * s; value = u } ∷ record { at = 2 + 3 * s; value = r } ∷ record { at = 3 + 3 * s; value = h } ∷ []
+
+-- "recovered"
+abbrev pub recovered : Line
+recovered = line recover 0 1
+
+-- one transaction of thread 0 that stores v into word 0
+abbrev pub transaction : ℕ → List Line
+transaction v = line (begin 0) 0 0 ∷ line (store 0 0 v) 0 0 ∷ line (commit 0) 0 6 ∷ []
+
+abbrev pub fresh : List Line → List Store → ℕ → ℕ → Scenario
+fresh steps log home working = record { head = 0; steps = recovered ∷ steps; log = log; home = home; working = working }
+
+-- "P1: recover makes 1 store; with count 0 it is cut."
+abbrev pub p1 : List Scenario
+p1 =
+    fresh [] (headIs 0 ∷ []) 0 0
+    ∷ record { head = 0; steps = under 0 recover 255 0 ∷ []; log = headIs 0 ∷ []; home = 0; working = 0 }
+    ∷ []
+
+-- "P2: begin, store 7, commit: 6 stores; slot 0 is 0, 7, 0500000000000000 and slot 1 ends in 0700000000000000 (hexadecimal).
+-- Recover: 2 stores, home 7, head 2."
+abbrev pub p2 : List Scenario
+p2 =
+    fresh (transaction 7) (slotIs 0 0 7 0x0500000000000000 ++ slotIs 1 0 0 0x0700000000000000) 0 7
+    ∷ fresh (transaction 7 ++ (line recover 0 2 ∷ [])) (headIs 2 ∷ []) 7 7
+    ∷ []
+
+-- P2's commit under a supply of c, with its answer and its stores
+abbrev pub commitUnder : ℕ → ℕ → ℕ → List Line
+commitUnder c answer stores = line (begin 0) 0 0 ∷ line (store 0 0 7) 0 0 ∷ under c (commit 0) answer stores ∷ []
+
+-- "P3: as P2 with count 5 at commit: cut; recover leaves 0, head 1."
+abbrev pub p3 : List Scenario
+p3 = fresh (commitUnder 5 255 5 ++ (line recover 0 2 ∷ [])) (headIs 1 ∷ []) 0 0 ∷ []
+
+-- store 7, log undo, store 9
+abbrev pub twoStores : List Line
+twoStores = line (begin 0) 0 0 ∷ line (store 0 0 7) 0 0 ∷ line logUndo 0 3 ∷ line (store 0 0 9) 0 0 ∷ []
+
+-- "P4: store 7, log undo, store 9, write home, commit (6 stores): recover makes 3 and leaves 9."
+abbrev pub p4 : List Scenario
+p4 = fresh (twoStores ++ (line (writeBack 0) 0 8 ∷ line (commit 0) 0 6 ∷ line recover 0 3 ∷ [])) (headIs 3 ∷ []) 9 9 ∷ []
+
+-- "P5: P4 without commit: 2 stores, 0."
+abbrev pub p5 : List Scenario
+p5 = fresh (twoStores ++ (line (writeBack 0) 0 8 ∷ line recover 0 2 ∷ [])) (headIs 1 ∷ []) 0 0 ∷ []
+
+-- "P6: store 7, log undo, store 9, set down, store 11, commit: 3 records in the log, recover leaves 11.
+-- With log undo in place of commit: 0."
+abbrev pub p6 : List Scenario
+p6 =
+    let steps = twoStores ++ (line (evict 0) 0 0 ∷ line (store 0 0 11) 0 0 ∷ []) in
+    fresh (steps ++ (line (commit 0) 0 6 ∷ line recover 0 3 ∷ [])) (headIs 3 ∷ []) 11 11
+    ∷ fresh (steps ++ (line logUndo 0 3 ∷ line recover 0 3 ∷ [])) (headIs 2 ∷ []) 0 0
+    ∷ []
+
+-- "P7: store 0; thread 1 begins and stores word 3: 8."
+abbrev pub p7 : List Scenario
+p7 = fresh (line (begin 0) 0 0 ∷ line (store 0 0 0) 0 0 ∷ line (begin 1) 0 0 ∷ line (store 1 3 1) 8 0 ∷ []) [] 0 0 ∷ []
+
+-- "P8: store 7, write home: 9."
+abbrev pub p8 : List Scenario
+p8 = fresh (line (begin 0) 0 0 ∷ line (store 0 0 7) 0 0 ∷ line (writeBack 0) 9 0 ∷ []) [] 0 7 ∷ []
+
+-- "P9: after P2's commit, delete: 15. After write home: done, done, then 12."
+abbrev pub p9 : List Scenario
+p9 =
+    fresh
+    (transaction 7 ++
+    (line deleteOldest 15 0
+    ∷ line (writeBack 0) 0 8
+    ∷ line deleteOldest 0 1
+    ∷ line deleteOldest 0 1
+    ∷ line deleteOldest 12 0
+    ∷ []))
+    (headIs 2 ∷ [])
+    7
+    7
+    ∷ []
+
+abbrev pub fourTransactions : List Line
+fourTransactions = transaction 1 ++ (transaction 2 ++ (transaction 3 ++ transaction 4))
+
+-- "P10: storing 1, 2, 3, 4 in four transactions fills the log; a fifth storing 5: commit 10. Write home and two deletes before the
+-- fifth: its headers are 0100000000000000 and 0300000000000000."
+abbrev pub p10 : List Scenario
+p10 =
+    fresh (fourTransactions ++ (line (begin 0) 0 0 ∷ line (store 0 0 5) 0 0 ∷ line (commit 0) 10 0 ∷ [])) (headIs 0 ∷ []) 0 5
+    ∷ fresh
+    (fourTransactions ++
+    (line (writeBack 0) 0 8 ∷ line deleteOldest 0 1 ∷ line deleteOldest 0 1 ∷ transaction 5))
+    (headIs 2 ∷ (slotIs 0 4 5 0x0100000000000000 ++ slotIs 1 0 0 0x0300000000000000))
+    4
+    5
+    ∷ []
+
+-- a scenario with another head at first, of which the log still has it at the end
+abbrev pub headAt : ℕ → List Line → Scenario
+headAt n steps = record { head = n; steps = steps; log = headIs n ∷ []; home = 0; working = 0 }
+
+-- "P11: recover with head 2^48 is done; then begin and commit: 11. Head 2^48 + 1: 13."
+abbrev pub p11 : List Scenario
+p11 =
+    headAt (2 ^ 48) (recovered ∷ line (begin 0) 0 0 ∷ line (commit 0) 11 0 ∷ [])
+    ∷ headAt (2 ^ 48 + 1) (line recover 13 0 ∷ [])
+    ∷ []
+
+-- "Plausible, and wrong", an entry each:
+-- "P4 with a set down before the write home would give 7";
+-- an undo+redo entry whose halves became equal, the log having an older redo;
+-- (a store of an equal value is P7, and undoing in log order P6);
+-- equal home and working words of a line whose record is needed.
+abbrev pub plausible : List Scenario
+plausible =
+    fresh (twoStores ++ (line (evict 0) 0 0 ∷ line (writeBack 0) 0 8 ∷ line (commit 0) 0 6 ∷ line recover 0 3 ∷ [])) [] 9 9
+    ∷ fresh
+    (twoStores ++ (line (evict 0) 0 0 ∷ line (store 0 0 11) 0 0 ∷ line (store 0 0 9) 0 0 ∷ line (commit 0) 0 6 ∷ line recover 0 3 ∷ []))
+    []
+    9
+    9
+    ∷ fresh (transaction 7 ++ (line (begin 0) 0 0 ∷ line (store 0 0 0) 0 0 ∷ line deleteOldest 15 0 ∷ line recover 0 2 ∷ [])) [] 7 7
+    ∷ []
+
+-- a supply that is just enough, and one store less: the working words are wiped; an open transaction's record stays;
+-- another thread's commit closes nothing of it
+abbrev pub edges : List Scenario
+edges =
+    fresh (commitUnder 6 0 6) [] 0 7
+    ∷ fresh (commitUnder 5 255 5) [] 0 0
+    ∷ fresh
+    (line (begin 0) 0 0 ∷ line (store 0 0 7) 0 0 ∷ line logUndo 0 3 ∷ line (writeBack 0) 0 8 ∷ line deleteOldest 15 0 ∷ line recover 0 2 ∷ [])
+    []
+    0
+    0
+    ∷ fresh (twoStores ++ (line (begin 1) 0 0 ∷ line (commit 1) 0 3 ∷ line recover 0 2 ∷ [])) (headIs 2 ∷ []) 0 0
+    ∷ []
+
+abbrev pub scenarios : List Scenario
+scenarios = p1 ++ (p2 ++ (p3 ++ (p4 ++ (p5 ++ (p6 ++ (p7 ++ (p8 ++ (p9 ++ (p10 ++ (p11 ++ (plausible ++ edges)))))))))))

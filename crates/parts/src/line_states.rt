@@ -1,0 +1,75 @@
+// The lines, and the two-bit states of a line's words.
+use crate::Line;
+use crate::Lines;
+ghost use mathlib.Core.Path.{_≡_};
+ghost use mathlib.Core.Bool.{cond, _&&_};
+ghost use lib.Dec.{ltb};
+ghost use Rattle.parts.specs.States.{stateAt, withState};
+ghost use Rattle.parts.specs.Lines.{lineAt, freeLines, putLine};
+
+// The state of word j of a line.
+pub fn state_at(states: u16, j: u64) -> u64
+    ensures { λ r. ⌜ r ≡ stateAt states j ⌝ }
+{
+    if j < 8 {
+        (states as u64 >> (2 * j)) & 3
+    } else {
+        0
+    }
+}
+
+// A line's states with that of word j replaced. There are eight words, and four states.
+pub fn with_state(states: u16, j: u64, state: u64) -> u16
+    ensures { λ r. ⌜ r ≡ cond (ltb j 8 && ltb state 4) (withState states j state) states ⌝ }
+{
+    if j < 8 && state < 4 {
+        let others = states as u64 - (state_at(states, j) << (2 * j));
+        (others + (state << (2 * j))) as u16
+    } else {
+        states
+    }
+}
+
+impl Lines {
+    // Every line free: nobody holds it, it is not dirty, its words are Clean.
+    pub fn free() -> Lines
+        ensures { λ (r : Lines). ⌜ r ≡ freeLines ⌝ }
+    {
+        Lines {
+            holders: [255; 64],
+            dirty: [false; 64],
+            states: [0; 64],
+        }
+    }
+
+    // A line; past the last place a line of zeros.
+    pub fn line(self, i: usize) -> Line
+        ensures { λ (r : Line). ⌜ r ≡ lineAt self i ⌝ }
+    {
+        if i < 64 {
+            Line {
+                holder: self.holders[i],
+                dirty: self.dirty[i],
+                states: self.states[i],
+            }
+        } else {
+            Line {
+                holder: 0,
+                dirty: false,
+                states: 0,
+            }
+        }
+    }
+
+    // A line replaced. Past the last place nothing is.
+    pub fn put(mut self, i: usize, line: Line) -> Lines
+        ensures { λ (r : Lines). ⌜ r ≡ putLine self i line ⌝ }
+    {
+        if i < 64 {
+            self.holders[i] = line.holder;
+            self.dirty[i] = line.dirty;
+            self.states[i] = line.states;
+        }
+        self
+    }
+}

@@ -21,7 +21,8 @@ use Rattle.parts.specs.Lines.{nobody}
 use Rattle.parts.specs.States.{Clean, stateAt}
 use Rattle.parts.proofs.States.{state-clean}
 use Rattle.model.specs.Lists.{keep}
-use Rattle.model.specs.Machine.{Machine, Memory, withTail, withOpened, withLines, withRedo, isOpen, lineOf, stateIn, holderIn, dirtyIn, allLogged}
+use Rattle.model.specs.Machine.{Machine, Memory, withTail, withOpened, withLines, withRedo, isOpen, lineOf, stateIn, holderIn}
+use Rattle.model.specs.Machine.{dirtyIn, allLogged}
 use Rattle.model.specs.Steps.{undoRedoRecord, redoRecord, undosLogged, newestRedos, commitRecords, released}
 use Rattle.model.specs.Step.{commit}
 use Rattle.model.specs.Book.{Book, settled, entered}

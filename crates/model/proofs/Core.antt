@@ -24,8 +24,10 @@ use Rattle.model.proofs.Own.{redos, Own}
 -- committed value, hm its home word, x its working word, h its holder; us and ds are its entries in the undo+redo and the redo buffer.
 pub data State (undo new : Option ℕ) (s hm x h : ℕ) (dirty : Bool) (st : ℕ) (us ds : List Entry) : Type 0 where
   clean : st ≡ Clean → us ≡ [] → ds ≡ [] → or undo x ≡ s → or new hm ≡ x → State undo new s hm x h dirty st us ds
-  cleanWaiting : (e : Entry) → st ≡ Clean → us ≡ [] → ds ≡ e ∷ [] → e .thread ≡ h → e .redo ≡ x → or undo x ≡ s → State undo new s hm x h dirty st us ds
-  changed : (e : Entry) → st ≡ Dirty → us ≡ e ∷ [] → ds ≡ [] → e .thread ≡ h → e .redo ≡ x → or undo (e .undo) ≡ s → dirty ≡ true → State undo new s hm x h dirty st us ds
+  cleanWaiting : (e : Entry) → st ≡ Clean → us ≡ [] → ds ≡ e ∷ [] → e .thread ≡ h → e .redo ≡ x → or undo x ≡ s
+      → State undo new s hm x h dirty st us ds
+  changed : (e : Entry) → st ≡ Dirty → us ≡ e ∷ [] → ds ≡ [] → e .thread ≡ h → e .redo ≡ x → or undo (e .undo) ≡ s → dirty ≡ true
+      → State undo new s hm x h dirty st us ds
   urlog : st ≡ URLog → us ≡ [] → ds ≡ [] → undo ≡ some s → or new hm ≡ x → State undo new s hm x h dirty st us ds
   ulog : st ≡ ULog → us ≡ [] → ds ≡ [] → undo ≡ some s → State undo new s hm x h dirty st us ds
 
@@ -54,7 +56,8 @@ pub record LineOk (opened : List Bool) (line : Line) : Type 0 where
   pub holder : ((line .holder ≡ nobody) × (line .states ≡ 0)) ⊎ ((line .holder < 8) × (getD opened (line .holder) false ≡ true))
 
 -- The invariant, of the parts of a machine, the records in the log, home and working words, and the book.
-pub record Core (words : ℕ) (opened : List Bool) (lines : List Line) (us ds : List Entry) (rs : List Record) (home working : List ℕ) (s : ℕ → ℕ) (p : ℕ → List Store) : Type 0 where
+pub record Core (words : ℕ) (opened : List Bool) (lines : List Line) (us ds : List Entry) (rs : List Record) (home working : List ℕ)
+    (s : ℕ → ℕ) (p : ℕ → List Store) : Type 0 where
   pub lineCount : words ≡ 8 * length lines
   pub homeSize : length home ≡ words
   pub workingSize : length working ≡ words
@@ -67,7 +70,9 @@ pub record Core (words : ℕ) (opened : List Bool) (lines : List Line) (us ds : 
   pub valid : Every (Valid words) rs
   pub own : (w : ℕ) → w < words → Own w (holderIn lines w) rs
   pub others : (w : ℕ) → w < words → (t : ℕ) → t < 8 → getD opened t false ≡ true → (t ≡ holderIn lines w → ⊥) → lastTo w (p t) ≡ none
-  pub word : (w : ℕ) → w < words → Word (lastTo w (undoWrites rs)) (lastTo w (redoWrites rs)) (lastTo w (redos rs)) (lastTo w (p (holderIn lines w))) (s w) (getD home w 0) (getD working w 0) (holderIn lines w) (dirtyIn lines w) (stateIn lines w) (entriesOf w us) (entriesOf w ds)
+  pub word : (w : ℕ) → w < words
+      → Word (lastTo w (undoWrites rs)) (lastTo w (redoWrites rs)) (lastTo w (redos rs)) (lastTo w (p (holderIn lines w))) (s w)
+      (getD home w 0) (getD working w 0) (holderIn lines w) (dirtyIn lines w) (stateIn lines w) (entriesOf w us) (entriesOf w ds)
 
 -- What a power cut leaves: recovery would bring every word's committed value home.
 unfoldable pub Safe : ℕ → List Record → List ℕ → (ℕ → ℕ) → Type 0
@@ -84,7 +89,7 @@ pub record Appends (m : Machine) (home : List ℕ) (b : Book) (rs new : List Rec
   pub core : CoreOf next home working book (rs ++ new)
 
 -- a machine that is not lost is safe too
-pub core-safe : {words : ℕ} {opened : List Bool} {ls : List Line} {us ds : List Entry} {rs : List Record} {home working : List ℕ} {s : ℕ → ℕ} {p : ℕ → List Store}
-    → Core words opened ls us ds rs home working s p → Safe words rs home s
+pub core-safe : {words : ℕ} {opened : List Bool} {ls : List Line} {us ds : List Entry} {rs : List Record} {home working : List ℕ}
+    {s : ℕ → ℕ} {p : ℕ → List Store} → Core words opened ls us ds rs home working s p → Safe words rs home s
 unfolding Safe
 core-safe core w h = core .word w h .crash

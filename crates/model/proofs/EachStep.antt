@@ -20,11 +20,15 @@ use Rattle.log.proofs.Stored.{length-stored}
 use Rattle.log.proofs.Holding.{slots-of, deleted}
 use Rattle.log.proofs.Readings.{tail-found, read-one, read-on, read-all}
 use Rattle.model.specs.Lists.{any, isEmpty}
-use Rattle.model.specs.Machine.{Machine, Memory, lostMachine, freshMachine, withHead, withTail, withOpened, withLines, withRedo, isOpen, wordsOf, stateIn, heldBy, dirtyAs, statesAs, changed}
+use Rattle.model.specs.Machine.{Machine, Memory, lostMachine, freshMachine, withHead, withTail, withOpened, withLines, withRedo}
+use Rattle.model.specs.Machine.{isOpen, wordsOf, stateIn, heldBy, dirtyAs, statesAs, changed}
 use Rattle.model.specs.Consistent.{isWidth, consistent}
 use Rattle.model.specs.Plan.{Put, Op, append, writeHome, setHead, putsOf, Plan, planned, Outcome, performed}
-use Rattle.model.specs.Refusals.{lost, inconsistent, busy, held, pending, nothing, damaged, needed, size, headTooHigh, row, unless, common, unknownThread, unknownWord, unknownLine, notOpen, isPending, noRoom, wrongLengths}
-use Rattle.model.specs.Steps.{undoRecords, redoRecords, undosLogged, redosLogged, beginPlan, storeLogs, storedAs, storeNext, heldByAnother, storePlan, logUndoPlan, logRedoPlan, evicted, lacking, evictPlan, lineWrites, writeBackPlan, commitRecords, released, commitPlan, isBad, isNeeded, deletePlan}
+use Rattle.model.specs.Refusals.{lost, inconsistent, busy, held, pending, nothing, damaged, needed, size, headTooHigh, row, unless}
+use Rattle.model.specs.Refusals.{common, unknownThread, unknownWord, unknownLine, notOpen, isPending, noRoom, wrongLengths}
+use Rattle.model.specs.Steps.{undoRecords, redoRecords, undosLogged, redosLogged, beginPlan, storeLogs, storedAs, storeNext}
+use Rattle.model.specs.Steps.{heldByAnother, storePlan, logUndoPlan, logRedoPlan, evicted, lacking, evictPlan, lineWrites}
+use Rattle.model.specs.Steps.{writeBackPlan, commitRecords, released, commitPlan, isBad, isNeeded, deletePlan}
 use Rattle.model.specs.Recovery.{recoveryWrites, records, recoverPlan}
 use Rattle.model.specs.Step.{Step, begin, store, logUndo, logRedo, evict, writeBack, commit, deleteOldest, recover, planOf, stepped}
 use Rattle.model.specs.Book.{Book, entered, noted}
@@ -217,7 +221,9 @@ module _ {l : ℕ} (c : ℕ) (m : Machine) (mem : Memory) (b : Book) (ready : Re
       appending m mem b world c rs next (mem .working) (entered (commit t) b)
       (rest .1 .1 .0)
       (rest .1 .1 .1 .0)
-      (commit-step m mem b (world .rs) t (world .core) (width-positive (m .words) (world .width)) (let h = ltb-false 7 t (rest .0) in omega arith) (not-false (isOpen m t) (rest .1 .0)))
+      (commit-step m mem b (world .rs) t (world .core) (width-positive (m .words) (world .width))
+      (let h = ltb-false 7 t (rest .0) in omega arith)
+      (not-false (isOpen m t) (rest .1 .0)))
       (record { lost = refl; words = refl; slots = refl; head = refl; tail = refl }))
 
   pub writeBack-ready : (i : ℕ) → After (writeBack i)
@@ -262,7 +268,8 @@ module _ {l : ℕ} (c : ℕ) (m : Machine) (mem : Memory) (b : Book) (ready : Re
       → isNeeded m (Good r) (map Good rs) ≡ false
   not-needed r rs holds tail spare =
       let count : m .tail - (m .head + 1) ≡ length rs = omega arith in
-      rw (count, read-on holds (length rs) 1 (omega arith), ap (readBack (m .words) (mem .log)) (sym (add-zero (m .head))) ∙ read-one holds 0 (omega arith)) at spare
+      let oldest = ap (readBack (m .words) (mem .log)) (sym (add-zero (m .head))) ∙ read-one holds 0 (omega arith) in
+      rw (count, read-on holds (length rs) 1 (omega arith), oldest) at spare
 
   -- the oldest record of a log that holds rs goes
   delete-ends : (rs : List Record) (world : Live l m mem b) → world .rs ≡ rs

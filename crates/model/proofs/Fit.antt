@@ -12,7 +12,8 @@ use Rattle.log.specs.Holding.{Every}
 use Rattle.parts.specs.declared.Entry.{Entry}
 use Rattle.model.specs.Lists.{all}
 use Rattle.model.specs.Machine.{Machine, Memory}
-use Rattle.model.specs.Consistent.{isWidth, lineLimits, entryLimits, withinLimits, inOrder, dirtyWait, redoClean, entriesHeld, holdersOpen, freeClean, consistent, consistentWith}
+use Rattle.model.specs.Consistent.{isWidth, lineLimits, entryLimits, withinLimits, inOrder, dirtyWait, redoClean, entriesHeld}
+use Rattle.model.specs.Consistent.{holdersOpen, freeClean, consistent, consistentWith}
 use Rattle.model.specs.Refusals.{wrongLengths, wrongSize, common}
 use Rattle.model.proofs.Lists.{both-left, both-right}
 use Rattle.model.proofs.Records.{both-fail}
@@ -132,7 +133,9 @@ unfolding wrongSize wrongLengths consistentWith
 fit m mem none =
     let alive = none .1 .0 in
     let size = both-fail (wrongLengths mem) (not (m .lost) && differs) (none .0) in
-    let lengths = both-fail (not (isWidth (length (mem .home)))) (not (eqb (length (mem .working)) (length (mem .home))) || eqb (slotsOf (mem .log)) 0) (size .0) in
+    let lengths =
+    both-fail (not (isWidth (length (mem .home)))) (not (eqb (length (mem .working)) (length (mem .home))) || eqb (slotsOf (mem .log)) 0)
+    (size .0) in
     let alike = both-fail (not (eqb (length (mem .working)) (length (mem .home)))) (eqb (slotsOf (mem .log)) 0) (lengths .1) in
     let same : differs ≡ false = rw alive at (size .1) in
     let both = both-fail (not (eqb (length (mem .home)) (m .words))) (not (eqb (slotsOf (mem .log)) (m .slots))) same in

@@ -147,4 +147,6 @@ ends {l} c mem hs gs next working before book all some = go (decLe (length hs + 
         (finished refl (subst (λ (r : Memory). Live l next r book) (sym (whole mem hs gs working)) all))
     go (no q) =
         subst (λ (o : Outcome). Ends l o before book) (sym (performed-cut c mem (puts hs gs) next working (rw length-puts (omega arith))))
-        (stopped refl refl (subst (λ (r : Memory). Kept l r (before .committed)) (sym (partly-written mem c hs gs (replicate (length (mem .working)) 0))) (some c (omega arith))))
+        (stopped refl refl
+        (subst (λ (r : Memory). Kept l r (before .committed)) (sym (partly-written mem c hs gs (replicate (length (mem .working)) 0)))
+        (some c (omega arith))))

@@ -70,7 +70,10 @@ module _ {l : ℕ} (c : ℕ) (m : Machine) (mem : Memory) (b : Book) (world : Ke
       let holds = world .holds in
       let least = holds .least in
       let numbered = holds .numbered in
-      rw (read-all holds, none-bad (world .rs), all-records (world .rs), tail-found holds, world .width, eq-eqb (length (mem .working)) (length (mem .home)) (world .working), slots-of holds, ne-eqb l 0 (omega arith), holds .first, le-ltb numbers (world .head) (omega arith))
+      let alike = eq-eqb (length (mem .working)) (length (mem .home)) (world .working) in
+      let some = ne-eqb l 0 (omega arith) in
+      let low = le-ltb numbers (world .head) (omega arith) in
+      rw (read-all holds, none-bad (world .rs), all-records (world .rs), tail-found holds, world .width, alike, slots-of holds, some, holds .first, low)
 
   pub recovered : stepped recover c m mem
       ≡ performed c mem (puts writes (headStores l end)) (freshMachine width l end) (stored (mem .home) writes)

@@ -27,7 +27,8 @@ use Rattle.model.proofs.Core.{Safe}
 use Rattle.model.proofs.Worlds.{Kept, Live, Ready, live, dark, Ends, finished, stopped, live-kept}
 use Rattle.model.proofs.Performing.{enough}
 use Rattle.model.proofs.Steps.{ends-ready}
-use Rattle.model.proofs.EachStep.{begin-ready, store-ready, logUndo-ready, logRedo-ready, evict-ready, writeBack-ready, commit-ready, delete-ready, head-store}
+use Rattle.model.proofs.EachStep.{begin-ready, store-ready, logUndo-ready, logRedo-ready, evict-ready, writeBack-ready, commit-ready}
+use Rattle.model.proofs.EachStep.{delete-ready, head-store}
 use Rattle.model.proofs.Recovering.{recovered, recover-ends, recover-faithful}
 use Rattle.model.proofs.Consistency.{core-consistent}
 

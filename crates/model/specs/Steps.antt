@@ -16,10 +16,12 @@ use Rattle.parts.specs.Lines.{nobody}
 use Rattle.parts.specs.States.{Clean, Dirty, URLog, ULog}
 use Rattle.parts.specs.Waiting.{discarded, amended}
 use Rattle.model.specs.Lists.{keep, any, upTo, isEmpty}
-use Rattle.model.specs.Machine.{Machine, Memory, withHead, withTail, withOpened, withLines, withUndoRedo, withRedo, isOpen, wordsOf, lineOf, stateIn, holderIn, dirtyIn, heldBy, dirtyAs, statesAs, changed, marked, allLogged}
+use Rattle.model.specs.Machine.{Machine, Memory, withHead, withTail, withOpened, withLines, withUndoRedo, withRedo, isOpen, wordsOf}
+use Rattle.model.specs.Machine.{lineOf, stateIn, holderIn, dirtyIn, heldBy, dirtyAs, statesAs, changed, marked, allLogged}
 use Rattle.model.specs.Consistent.{consistent}
 use Rattle.model.specs.Plan.{Op, append, writeHome, setHead, Plan, planned}
-use Rattle.model.specs.Refusals.{lost, inconsistent, busy, held, pending, nothing, damaged, needed, row, unless, common, unknownThread, unknownWord, unknownLine, notOpen, isPending, noRoom}
+use Rattle.model.specs.Refusals.{lost, inconsistent, busy, held, pending, nothing, damaged, needed, row, unless, common}
+use Rattle.model.specs.Refusals.{unknownThread, unknownWord, unknownLine, notOpen, isPending, noRoom}
 
 -- the records of waiting entries
 abbrev pub undoRedoRecord : Entry → Record

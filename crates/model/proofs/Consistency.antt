@@ -25,11 +25,11 @@ use Rattle.model.proofs.Lists.{every-listed}
 use Rattle.model.proofs.Core.{State, clean, cleanWaiting, changed, urlog, ulog, EntryOk, LineOk, CoreOf}
 
 -- two tests that both pass
-both : {a b : Bool} → a ≡ true → b ≡ true → (a && b) ≡ true
+pub both : {a b : Bool} → a ≡ true → b ≡ true → (a && b) ≡ true
 both p q = rw p q
 
 -- a test that every element with a property passes
-all-true : {A : Type 0} (P : A → Type 0) (f : A → Bool) (xs : List A) → ((x : A) → P x → f x ≡ true) → Every P xs → all f xs ≡ true
+pub all-true : {A : Type 0} (P : A → Type 0) (f : A → Bool) (xs : List A) → ((x : A) → P x → f x ≡ true) → Every P xs → all f xs ≡ true
 unfolding all
 all-true P f [] pass every = refl
 all-true P f (x ∷ xs) pass every = both (pass x (every .0)) (all-true P f xs pass (every .1))
@@ -40,7 +40,7 @@ every-rest P true e es every = every .1
 every-rest P false e es every = every
 
 -- what holds of a word and each of its entries, for every word, holds of every entry and its word
-every-entry : (words : ℕ) (P : ℕ → Entry → Type 0) (es : List Entry) → Every (EntryOk words) es
+pub every-entry : (words : ℕ) (P : ℕ → Entry → Type 0) (es : List Entry) → Every (EntryOk words) es
     → ((w : ℕ) → w < words → Every (P w) (entriesOf w es)) → Every (λ e. P (e .word) e) es
 unfolding keep
 every-entry words P [] ok each = tt
@@ -49,10 +49,10 @@ every-entry words P (e ∷ es) ok each =
     (own .0, every-entry words P es (ok .1) (λ w h. every-rest (P w) (eqb (e .word) w) e (entriesOf w es) (each w h)))
 
 -- An entry e waits in a buffer for words of one state, `wanted`: the word is in it, e is its only entry in the buffer, and of its holder.
-record Waits (wanted st h : ℕ) (es : List Entry) (e : Entry) : Type 0 where
-  state : st ≡ wanted
-  alone : length es ≡ 1
-  thread : e .thread ≡ h
+pub record Waits (wanted st h : ℕ) (es : List Entry) (e : Entry) : Type 0 where
+  pub state : st ≡ wanted
+  pub alone : length es ≡ 1
+  pub thread : e .thread ≡ h
 
 module _ {undo new : Option ℕ} {s hm x h st : ℕ} {dirty : Bool} {us ds : List Entry} where
   -- an undo+redo entry waits for a Dirty word
@@ -80,7 +80,7 @@ module _ {undo new : Option ℕ} {s hm x h st : ℕ} {dirty : Bool} {us ds : Lis
   dirty-waits (ulog c u d o) = rw c
 
 -- an entry's numbers are within their limits
-entry-limits : (words : ℕ) (e : Entry) → EntryOk words e → entryLimits words e ≡ true
+pub entry-limits : (words : ℕ) (e : Entry) → EntryOk words e → entryLimits words e ≡ true
 unfolding entryLimits
 entry-limits words e ok = both (lt-ltb (e .thread) 8 (ok .thread)) (lt-ltb (e .word) words (ok .word))
 
@@ -101,11 +101,11 @@ module _ (opened : List Bool) (line : Line) (ok : LineOk opened line) where
   free-clean = ⊎-elim (λ free. rw (free .0, free .1)) (λ held. rw (ne-eqb (line .holder) nobody (omega arith))) (ok .holder)
 
 -- e waits as an entry of word w of a machine
-abbrev WaitsFor : ℕ → List Line → List Entry → ℕ → Entry → Type 0
+abbrev pub WaitsFor : ℕ → List Line → List Entry → ℕ → Entry → Type 0
 WaitsFor wanted ls es w e = Waits wanted (stateIn ls w) (holderIn ls w) (entriesOf w es) e
 
 -- every entry of a buffer waits so
-abbrev AllWait : ℕ → List Line → List Entry → Type 0
+abbrev pub AllWait : ℕ → List Line → List Entry → Type 0
 AllWait wanted ls es = Every (λ e. WaitsFor wanted ls es (e .word) e) es
 
 module _ (wanted : ℕ) (ls : List Line) (es : List Entry) (waiting : AllWait wanted ls es) where
@@ -114,17 +114,17 @@ module _ (wanted : ℕ) (ls : List Line) (es : List Entry) (waiting : AllWait wa
   all-waiting f pass = all-true (λ e. WaitsFor wanted ls es (e .word) e) f es pass waiting
 
   -- their words are in the wanted state
-  all-in-state : all (λ e. eqb (stateIn ls (e .word)) wanted) es ≡ true
+  pub all-in-state : all (λ e. eqb (stateIn ls (e .word)) wanted) es ≡ true
   all-in-state = all-waiting _ (λ e u. eq-eqb (stateIn ls (e .word)) wanted (u .state))
 
   -- and have no other entry
-  all-alone : all (λ e. eqb (stateIn ls (e .word)) wanted && eqb (length (entriesOf (e .word) es)) 1) es ≡ true
+  pub all-alone : all (λ e. eqb (stateIn ls (e .word)) wanted && eqb (length (entriesOf (e .word) es)) 1) es ≡ true
   all-alone =
       all-waiting _
       (λ e u. both (eq-eqb (stateIn ls (e .word)) wanted (u .state)) (eq-eqb (length (entriesOf (e .word) es)) 1 (u .alone)))
 
   -- their threads hold the lines
-  all-held : all (λ e. eqb (e .thread) (holderIn ls (e .word))) es ≡ true
+  pub all-held : all (λ e. eqb (e .thread) (holderIn ls (e .word))) es ≡ true
   all-held = all-waiting _ (λ e u. eq-eqb (e .thread) (holderIn ls (e .word)) (u .thread))
 
 module _ (m : Machine) (home working : List ℕ) (b : Book) (rs : List Record) (core : CoreOf m home working b rs) where

@@ -24,3 +24,4 @@ pub mod Fit
 pub mod EachStep
 pub mod Recovering
 pub mod WholeList
+pub mod Running

@@ -1,5 +1,5 @@
 -- The run of a list of steps, each with its supply, and the claim about it.
-use Prim.Native.Nat.{ℕ, _+_, _*_, _<_, _≤_}
+use Prim.Native.Nat.{ℕ, _+_, _-_, _*_, _<_, _≤_}
 use mathlib.Core.Path.{_≡_}
 use mathlib.Core.Bool.{Bool, true}
 use mathlib.Core.List.{List, [], _∷_}
@@ -72,6 +72,16 @@ WholeListClaim =
 unfoldable pub ran : World → List Timed → World
 ran w [] = w
 ran w (s ∷ ss) = ran (after w s) ss
+
+-- the answer of each step
+unfoldable pub answersOf : World → List Timed → List ℕ
+answersOf w [] = []
+answersOf w (s ∷ ss) = outcome w s .answer ∷ answersOf (after w s) ss
+
+-- the number of stores that each step made: its supply less what is left of it
+unfoldable pub storesOf : World → List Timed → List ℕ
+storesOf w [] = []
+storesOf w (s ∷ ss) = (s .supply - outcome w s .left) ∷ storesOf (after w s) ss
 
 -- What shows that the claim is not empty, of the world after any such list: a recovery is done or cut and never refused, it is done with
 -- a supply of L+1, and the state handed back last is lost or consistent.

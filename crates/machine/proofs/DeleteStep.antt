@@ -1,0 +1,128 @@
+-- A delete by its parts: the numbers under which it is refused, and its one store.
+use Prim.Native.Nat.{ℕ, _+_, _-_}
+use mathlib.Core.Path.{_≡_, refl, sym, _∙_, ap, ap₂}
+use mathlib.Core.Bool.{Bool, false, cond}
+use mathlib.Core.List.{List, [], _∷_, _++_}
+use native.Mathlib.Nat.{sub-zero}
+use native.Mathlib.Omega.{arith}
+use borrow.Author.Tests.{lt-ltb, eq-eqb, ne-eqb}
+use lib.ListN.{length, take, replicate}
+use lib.Seq.{take-nil}
+use Rattle.log.specs.declared.Record.{Record}
+use Rattle.log.specs.declared.Reading.{Reading}
+use Rattle.log.specs.declared.Reading.the-variants.{Good}
+use Rattle.log.specs.Stores.{Store, stored, storedUnder}
+use Rattle.log.specs.Region.{slotsOf, headStores}
+use Rattle.log.specs.Holding.{Every}
+use Rattle.model.specs.Machine.{Machine, Memory, lostMachine, withHead}
+use Rattle.model.specs.Plan.{Op, setHead, putsOf, planned, Outcome}
+use Rattle.model.specs.Refusals.{Row, numberOf, unless, common}
+use Rattle.model.specs.Steps.{isBad, isNeeded, deletePlan}
+use Rattle.model.specs.Step.{deleteOldest, planOf, stepped}
+use Rattle.model.proofs.Performing.{puts, puts-head, partly}
+use Rattle.model.proofs.Outcomes.{none-apply, number-first, number-then, outcome-refused, outcome-done, outcome-cut}
+use Rattle.model.proofs.Fit.{Fit, fit}
+use Rattle.machine.specs.Deleting.{oldest, later, deleteRows}
+use Rattle.machine.proofs.Outcome.{outcome-eq}
+
+-- whether a record is needed, by what was read
+pub needed-by : (m : Machine) (rs : List Reading) (x : Reading) (r s : Record) (b : Bool) → x ≡ Good r → r ≡ s → b ≡ isNeeded m (Good s) rs
+    → b ≡ isNeeded m x rs
+needed-by m rs x r s b e f g = g ∙ sym (ap (λ (y : Reading). isNeeded m y rs) (e ∙ ap Good f))
+
+module _ (m : Machine) (mem : Memory) where
+  -- a delete's rows
+  abbrev pub allRows : List Row
+  allRows = common m mem ++ deleteRows m (mem .log)
+
+  -- the common rows are the first
+  pub refused-first : (n : ℕ) → n ≡ numberOf (common m mem) → (n ≡ 0 → ⊥) → n ≡ numberOf allRows
+  refused-first n e some = sym (number-first (common m mem) (deleteRows m (mem .log)) n (sym e) some)
+
+  module _ (zero : 0 ≡ numberOf (common m mem)) where
+    none : Every (λ r. r .applies ≡ false) (common m mem)
+    none = none-apply (common m mem) (omega arith, (omega arith, (omega arith, tt))) (sym zero)
+
+    -- what is known where none of them applies
+    pub fits : Fit m mem
+    fits = fit m mem none
+
+    -- an empty log
+    pub refused-nothing : m .head ≡ m .tail → 12 ≡ numberOf allRows
+    unfolding numberOf
+    refused-nothing e = sym (number-then (common m mem) (deleteRows m (mem .log)) none ∙ rw (eq-eqb (m .head) (m .tail) e))
+
+    -- the oldest record
+    pub refused-oldest : (m .head ≡ m .tail → ⊥) → (a b : Bool) (p q : ℕ) → a ≡ isBad (oldest m (mem .log))
+        → b ≡ isNeeded m (oldest m (mem .log)) (later m (mem .log)) → q ≡ cond b 15 0 → p ≡ cond a 14 q → p ≡ numberOf allRows
+    unfolding numberOf
+    refused-oldest ne a b p q e f g h =
+        h ∙ ap₂ (λ (t : Bool) (n : ℕ). cond t 14 n) e (g ∙ ap (λ (t : Bool). cond t 15 0) f)
+        ∙ sym (number-then (common m mem) (deleteRows m (mem .log)) none ∙ rw (ne-eqb (m .head) (m .tail) ne))
+
+module _ (c : ℕ) (m : Machine) (mem : Memory) where
+  ops : List Op
+  ops = setHead (m .head + 1) ∷ []
+
+  stores : List Store
+  stores = headStores (slotsOf (mem .log)) (m .head + 1)
+
+  plan : planOf deleteOldest m mem ≡ unless (allRows m mem) (planned ops (withHead (m .head + 1) m) (mem .working))
+  unfolding planOf deletePlan ops
+  plan = refl
+
+  -- refused: all is as it was
+  pub delete-refused : (n : ℕ) → n ≡ numberOf (allRows m mem) → (n ≡ 0 → ⊥)
+      → record { answer = n; left = c; machine = m; memory = mem } ≡ stepped deleteOldest c m mem
+  delete-refused n e some =
+      sym (outcome-refused deleteOldest c m mem (allRows m mem) ops (withHead (m .head + 1) m) (mem .working) plan n (sym e) some refl)
+
+  module _ (zero : 0 ≡ numberOf (allRows m mem)) where
+    allowed : Every (λ r. r .applies ≡ false) (allRows m mem)
+    allowed =
+        none-apply (allRows m mem) (omega arith, (omega arith, (omega arith, (omega arith, (omega arith, (omega arith, tt)))))) (sym zero)
+
+    -- what is known of the state then
+    pub fits-all : Fit m mem
+    fits-all = fit m mem (allowed .0, (allowed .1 .0, (allowed .1 .1 .0, tt)))
+
+    made : putsOf (slotsOf (mem .log)) (m .tail) ops ≡ puts [] stores
+    unfolding ops stores
+    made = puts-head (slotsOf (mem .log)) (m .tail) (m .head + 1)
+
+    one : length stores ≡ 1
+    unfolding stores headStores
+    one = let f = fits-all in let k = f .clauses in rw (f .slots, lt-ltb 0 (m .slots) (omega arith))
+
+    -- what is stored under the supply
+    home-same : (mem .home) ≡ stored (mem .home) (take c [])
+    unfolding stored
+    home-same = rw take-nil
+
+    log-same : storedUnder c (mem .log) stores ≡ stored (mem .log) (take (c - 0) stores)
+    log-same = rw sub-zero
+
+    -- cut: no store is made
+    pub delete-cut : (o : Outcome) → c ≡ 0 → o .answer ≡ 255 → o .left ≡ 0 → o .machine ≡ lostMachine → o .memory .home ≡ mem .home
+        → o .memory .working ≡ replicate (length (mem .working)) 0 → o .memory .log ≡ storedUnder c (mem .log) (headStores (slotsOf (mem .log)) (m .head + 1))
+        → o ≡ stepped deleteOldest c m mem
+    unfolding stores
+    delete-cut o z a l s h w g =
+        outcome-eq o
+        (record { answer = 255; left = 0; machine = lostMachine; memory = partly mem c [] stores (replicate (length (mem .working)) 0) })
+        a l s (h ∙ home-same) w (g ∙ log-same)
+        ∙ sym (outcome-cut deleteOldest c m mem (allRows m mem) ops (withHead (m .head + 1) m) (mem .working) plan [] stores allowed made
+        (let e = one in omega arith))
+
+    -- done: the head moves on
+    pub delete-done : (o : Outcome) → (c ≡ 0 → ⊥) → o .answer ≡ 0 → o .left ≡ c - length (headStores (slotsOf (mem .log)) (m .head + 1))
+        → o .machine ≡ withHead (m .head + 1) m → o .memory .home ≡ mem .home → o .memory .working ≡ mem .working
+        → o .memory .log ≡ storedUnder c (mem .log) (headStores (slotsOf (mem .log)) (m .head + 1)) → o ≡ stepped deleteOldest c m mem
+    unfolding stores
+    delete-done o z a l s h w g =
+        let e : c - length stores ≡ c - (0 + length stores) = omega arith in
+        outcome-eq o
+        (record { answer = 0; left = c - (0 + length stores); machine = withHead (m .head + 1) m; memory = partly mem c [] stores (mem .working) })
+        a (l ∙ e) s (h ∙ home-same) w (g ∙ log-same)
+        ∙ sym (outcome-done deleteOldest c m mem (allRows m mem) ops (withHead (m .head + 1) m) (mem .working) plan [] stores allowed made
+        (let e = one in omega arith))

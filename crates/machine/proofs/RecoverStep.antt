@@ -1,0 +1,227 @@
+-- A recovery by its parts: the numbers under which it is refused, its stores, and the state after it. No state before it is of account.
+use Prim.Native.Nat.{ℕ, _+_, _-_, _/_, _≤_, _<_}
+use mathlib.Core.Path.{_≡_, refl, sym, _∙_, ap, ap₂}
+use mathlib.Core.Bool.{Bool, true, false, cond, _||_, not}
+use mathlib.Core.List.{List, [], _∷_, _++_, map}
+use native.Mathlib.Numerals.{add-one}
+use native.Mathlib.Omega.{arith}
+use borrow.Author.Tests.{lt-ltb, eqb-true, eqb-false, not-false}
+use lib.Dec.{eqb, ltb}
+use lib.ListN.{length, getD, set, take, replicate}
+use lib.Seq.{take-all, take-suc, take-suc-set}
+use Rattle.log.specs.Stores.{Store, stored, storedUnder}
+use Rattle.log.specs.Region.{numbers, slotsOf, headOf, tailOf, recordsOf, headStores}
+use Rattle.log.specs.Holding.{Every}
+use Rattle.log.proofs.Sizes.{sized}
+use Rattle.parts.specs.declared.Buffer.{Buffer}
+use Rattle.parts.specs.declared.Lines.{Lines}
+use Rattle.parts.specs.Waiting.{waiting}
+use Rattle.parts.specs.Lines.{freeLine, freeLines, firstLines}
+use Rattle.parts.proofs.FirstLines.{first-free}
+use Rattle.model.specs.Lists.{any}
+use Rattle.model.specs.Consistent.{isWidth}
+use Rattle.model.specs.Machine.{Machine, Memory, lostMachine, freshMachine}
+use Rattle.model.specs.Plan.{Op, writeHome, setHead, Put, inHome, putsOf, Plan, refused, planned, Outcome, performed, carriedOut}
+use Rattle.model.specs.Refusals.{Row, row, numberOf, unless, damaged, wrongLengths}
+use Rattle.model.specs.Steps.{isBad}
+use Rattle.model.specs.Recovery.{recoveryWrites, records, recoverPlan}
+use Rattle.model.specs.Step.{recover, planOf, stepped}
+use Rattle.model.proofs.Records.{both-fail}
+use Rattle.model.proofs.Performing.{puts, puts-home, puts-head, partly}
+use Rattle.model.proofs.Outcomes.{none-apply, number-first, number-then, outcome-refused, outcome-done, outcome-cut}
+use Rattle.machine.specs.View.{view}
+use Rattle.machine.specs.Recovering.{unreadableRows}
+use Rattle.machine.proofs.Outcome.{outcome-eq, Width, width}
+
+-- the state after a recovery, by its parts
+pub fresh-view : (words slots tail : ℕ) (ls : Lines) (u r : Buffer) → words ≤ 512 → ls ≡ freeLines → waiting u ≡ [] → waiting r ≡ []
+    → view (record {
+      lost = false;
+      words = words;
+      slots = slots;
+      head = tail;
+      tail = tail;
+      opened = replicate 8 false;
+      lines = ls;
+      undos = u;
+      redos = r;
+    })
+    ≡ freshMachine words slots tail
+fresh-view words slots tail ls u r h l e f =
+    let lines : firstLines (words / 8) ls ≡ replicate (words / 8) freeLine = ap (firstLines (words / 8)) l ∙ first-free (words / 8) (omega arith) in
+    λ i.
+    record {
+      lost = false;
+      words = words;
+      slots = slots;
+      head = tail;
+      tail = tail;
+      opened = replicate 8 false;
+      lines = lines i;
+      undoRedo = e i;
+      redo = f i;
+    }
+
+-- one more word copied, and all of them
+pub copied-more : (i : ℕ) (xs ys : List ℕ) → length xs ≡ length ys → i < length ys → take i xs ≡ take i ys
+    → take (i + 1) (set xs i (getD ys i 0)) ≡ take (i + 1) ys
+copied-more i xs ys same h e =
+    let k : i < length xs = omega arith in
+    rw (add-one, take-suc-set xs i (getD ys i 0) k, take-suc ys i 0 h, e)
+
+pub copied-all : (i : ℕ) (xs ys : List ℕ) → length xs ≡ length ys → length ys ≤ i → take i xs ≡ take i ys → xs ≡ ys
+copied-all i xs ys same h e = sym (take-all i xs (omega arith)) ∙ e ∙ take-all i ys h
+
+-- the buffers are of lengths that a recovery takes
+pub record Readable (mem : Memory) : Type 0 where
+  pub width : Width (length (mem .home))
+  pub working : length (mem .working) ≡ length (mem .home)
+  pub some : 0 < slotsOf (mem .log)
+  pub most : slotsOf (mem .log) ≤ 1024
+
+readable : (mem : Memory) → wrongLengths mem ≡ false → Readable mem
+unfolding wrongLengths
+readable mem e =
+    let same = eqb (length (mem .working)) (length (mem .home)) in
+    let both = both-fail (not (isWidth (length (mem .home)))) (not same || eqb (slotsOf (mem .log)) 0) e in
+    let rest = both-fail (not same) (eqb (slotsOf (mem .log)) 0) (both .1) in
+    let ne = eqb-false (slotsOf (mem .log)) 0 (rest .1) in
+    let some : 0 < slotsOf (mem .log) = omega arith in
+    record {
+      width = width (length (mem .home)) (not-false (isWidth (length (mem .home))) (both .0));
+      working = eqb-true (length (mem .working)) (length (mem .home)) (not-false same (rest .0));
+      some = some;
+      most = sized (length (mem .log)) (slotsOf (mem .log)) refl some .most;
+    }
+
+-- The plan of a recovery.
+module _ (mem : Memory) where
+  abbrev pub recoverRows : List Row
+  recoverRows = unreadableRows mem ++ (row (any isBad (recordsOf (length (mem .home)) (mem .log))) damaged ∷ [])
+
+  abbrev pub homeStores : List Store
+  homeStores = recoveryWrites (records (recordsOf (length (mem .home)) (mem .log)))
+
+  abbrev pub lastStore : List Store
+  lastStore = headStores (slotsOf (mem .log)) (tailOf (mem .log))
+
+  ops : List Op
+  ops = map writeHome homeStores ++ (setHead (tailOf (mem .log)) ∷ [])
+
+  fresh : Machine
+  fresh = freshMachine (length (mem .home)) (slotsOf (mem .log)) (tailOf (mem .log))
+
+  plan : (m : Machine) → planOf recover m mem ≡ unless recoverRows (planned ops fresh (stored (mem .home) homeStores))
+  unfolding planOf recoverPlan ops fresh
+  plan m = refl
+
+  made : (n : ℕ) → putsOf (slotsOf (mem .log)) n ops ≡ puts homeStores lastStore
+  unfolding ops
+  made n =
+      puts-home (slotsOf (mem .log)) n homeStores (setHead (tailOf (mem .log)) ∷ [])
+      ∙ ap (λ (ps : List Put). map inHome homeStores ++ ps) (puts-head (slotsOf (mem .log)) n (tailOf (mem .log)))
+
+  -- the number under which the log is not read
+  pub unread-number : (t : Bool) (h p q : ℕ) → t ≡ wrongLengths mem → h ≡ headOf (mem .log) → q ≡ cond (ltb numbers h) 13 0 → p ≡ cond t 1 q
+      → p ≡ numberOf (unreadableRows mem)
+  unfolding numberOf
+  unread-number t h p q e f g k = rw (k, g, e, f)
+
+  pub refused-unread : (n : ℕ) → n ≡ numberOf (unreadableRows mem) → (n ≡ 0 → ⊥) → n ≡ numberOf recoverRows
+  refused-unread n e some =
+      sym (number-first (unreadableRows mem) (row (any isBad (recordsOf (length (mem .home)) (mem .log))) damaged ∷ []) n (sym e) some)
+
+  module _ (zero : 0 ≡ numberOf (unreadableRows mem)) where
+    unread-none : Every (λ r. r .applies ≡ false) (unreadableRows mem)
+    unread-none = none-apply (unreadableRows mem) (omega arith, (omega arith, tt)) (sym zero)
+
+    -- what is known where it is read
+    pub fits-unread : Readable mem
+    fits-unread = readable mem (unread-none .0)
+
+    -- a record read is bad
+    pub refused-damaged : true ≡ any isBad (recordsOf (length (mem .home)) (mem .log)) → 14 ≡ numberOf recoverRows
+    unfolding numberOf
+    refused-damaged e =
+        sym (number-then (unreadableRows mem) (row (any isBad (recordsOf (length (mem .home)) (mem .log))) damaged ∷ []) unread-none ∙ rw (← e))
+
+    -- or none is
+    allowed : false ≡ any isBad (recordsOf (length (mem .home)) (mem .log)) → Every (λ r. r .applies ≡ false) recoverRows
+    allowed e = (unread-none .0, (unread-none .1 .0, (sym e, tt)))
+
+  module _ (c : ℕ) (o : Outcome) where
+    -- refused: all is as it was, and the state is lost
+    pub recover-refused : (n : ℕ) → n ≡ numberOf recoverRows → (n ≡ 0 → ⊥) → o .answer ≡ n → o .left ≡ c → o .machine ≡ lostMachine
+        → o .memory ≡ mem → o ≡ stepped recover c lostMachine mem
+    recover-refused n e some a l s same =
+        outcome-eq o (record { answer = n; left = c; machine = lostMachine; memory = mem })
+        a l s (ap (λ (x : Memory). x .home) same) (ap (λ (x : Memory). x .working) same) (ap (λ (x : Memory). x .log) same)
+        ∙ sym (outcome-refused recover c lostMachine mem recoverRows ops fresh (stored (mem .home) homeStores) (plan lostMachine) n (sym e) some refl)
+
+    module _ (zero : 0 ≡ numberOf (unreadableRows mem)) (good : false ≡ any isBad (recordsOf (length (mem .home)) (mem .log)))
+        (left end : ℕ) (less : left ≡ c - length homeStores) (found : end ≡ tailOf (mem .log))
+        (home : o .memory .home ≡ storedUnder c (mem .home) homeStores)
+        (log : o .memory .log ≡ storedUnder left (mem .log) (headStores (slotsOf (mem .log)) end)) where
+      one : length lastStore ≡ 1
+      unfolding headStores
+      one = let r = fits-unread zero in rw (lt-ltb 0 (slotsOf (mem .log)) (r .some))
+
+      log-same : o .memory .log ≡ stored (mem .log) (take (c - length homeStores) lastStore)
+      log-same = log ∙ ap₂ (λ (n k : ℕ). storedUnder n (mem .log) (headStores (slotsOf (mem .log)) k)) less found
+
+      -- cut: not all stores are made
+      pub recover-cut : left ≡ 0 → o .answer ≡ 255 → o .left ≡ 0 → o .machine ≡ lostMachine
+          → o .memory .working ≡ replicate (length (mem .working)) 0 → o ≡ stepped recover c lostMachine mem
+      recover-cut none a l s w =
+          let e = one in
+          outcome-eq o
+          (record { answer = 255; left = 0; machine = lostMachine; memory = partly mem c homeStores lastStore (replicate (length (mem .working)) 0) })
+          a l s home w log-same
+          ∙ sym (outcome-cut recover c lostMachine mem recoverRows ops fresh (stored (mem .home) homeStores) (plan lostMachine) homeStores lastStore
+          (allowed zero good) (made 0) (omega arith))
+
+      -- done: working becomes home, and the state is fresh
+      pub recover-done : (slots : ℕ) → slots ≡ slotsOf (mem .log) → (left ≡ 0 → ⊥) → o .answer ≡ 0
+          → o .left ≡ left - length (headStores (slotsOf (mem .log)) end) → o .machine ≡ freshMachine (length (mem .home)) slots end
+          → o .memory .working ≡ o .memory .home → o ≡ stepped recover c lostMachine mem
+      unfolding fresh
+      recover-done slots size some a l s w =
+          let e = one in
+          let head : length (headStores (slotsOf (mem .log)) end) ≡ length lastStore = ap (λ (k : ℕ). length (headStores (slotsOf (mem .log)) k)) found in
+          let rest : left - length (headStores (slotsOf (mem .log)) end) ≡ c - (length homeStores + length lastStore) = omega arith in
+          let all : storedUnder c (mem .home) homeStores ≡ stored (mem .home) homeStores = ap (stored (mem .home)) (take-all c homeStores (omega arith)) in
+          outcome-eq o
+          (record {
+            answer = 0;
+            left = c - (length homeStores + length lastStore);
+            machine = fresh;
+            memory = partly mem c homeStores lastStore (stored (mem .home) homeStores);
+          })
+          a (l ∙ rest) (s ∙ ap₂ (freshMachine (length (mem .home))) size found) home (w ∙ home ∙ all) log-same
+          ∙ sym (outcome-done recover c lostMachine mem recoverRows ops fresh (stored (mem .home) homeStores) (plan lostMachine) homeStores lastStore
+          (allowed zero good) (made 0) (omega arith))
+
+-- a plan under rows, carried out after a record of one number or another, if its stores are the same
+carried-any : (c : ℕ) (m : Machine) (mem : Memory) (n k : ℕ) (ops : List Op) (next : Machine) (working : List ℕ)
+    → putsOf (slotsOf (mem .log)) n ops ≡ putsOf (slotsOf (mem .log)) k ops → (rows : List Row)
+    → carriedOut c m mem n (unless rows (planned ops next working)) ≡ carriedOut c m mem k (unless rows (planned ops next working))
+unfolding unless carriedOut
+carried-any c m mem n k ops next working e [] = ap (λ (ps : List Put). performed c mem ps next working) e
+carried-any c m mem n k ops next working e (r ∷ rows) = pick (r .applies) (carried-any c m mem n k ops next working e rows)
+  where
+    rest : Plan
+    rest = unless rows (planned ops next working)
+
+    pick : (t : Bool) → carriedOut c m mem n rest ≡ carriedOut c m mem k rest
+        → carriedOut c m mem n (cond t (refused (r .number)) rest) ≡ carriedOut c m mem k (cond t (refused (r .number)) rest)
+    pick true f = refl
+    pick false f = f
+
+-- "takes no state": a recovery is the same from any
+pub recover-any : (c : ℕ) (m : Machine) (mem : Memory) → stepped recover c m mem ≡ stepped recover c lostMachine mem
+unfolding stepped
+recover-any c m mem =
+    ap (carriedOut c lostMachine mem (m .tail)) (plan mem m)
+    ∙ carried-any c lostMachine mem (m .tail) 0 (ops mem) (fresh mem) (stored (mem .home) (homeStores mem)) (made mem (m .tail) ∙ sym (made mem 0))
+    (recoverRows mem)
+    ∙ sym (ap (carriedOut c lostMachine mem 0) (plan mem lostMachine))

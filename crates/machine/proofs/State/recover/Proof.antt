@@ -1,0 +1,210 @@
+-- `State::recover` meets its contract: it is refused before or after it reads the log, cut, or done.
+use mathlib.Core.Path.{_≡_, refl, sym, _∙_}
+use mathlib.Core.Bool.{false}
+use native.Mathlib.Omega.{arith}
+use lib.ListN.{length}
+use Rattle.log.specs.Region.{recordsOf}
+use Rattle.model.specs.Lists.{any}
+use Rattle.model.specs.Machine.{Memory}
+use Rattle.model.specs.Refusals.{numberOf}
+use Rattle.model.specs.Steps.{isBad}
+use Rattle.machine.specs.View.{memory}
+use Rattle.machine.specs.Recovering.{unreadableRows}
+use Rattle.machine.proofs.RecoverStep.{fits-unread, refused-unread, refused-damaged, recover-refused, recover-cut, recover-done}
+use borrow.Author.Needs.{needs}
+use Rattle.machine.proofs.State.recover.Statement.{statement}
+use Rattle.machine.proofs.State.recover.Tie as tie
+
+unreadable-requires : tie.Need-unreadable-requires
+unreadable-requires c κs = search needs
+
+lost-state-requires : tie.Need-lost-state-requires
+lost-state-requires c κs = search needs
+
+same-length : tie.Need-same-length
+same-length c = search needs
+
+same-length-2 : tie.Need-same-length-2
+same-length-2 c = search needs
+
+same-length-3 : tie.Need-same-length-3
+same-length-3 c = search needs
+
+returns : tie.Need-returns
+returns c =
+    let a = c .before .before .before .before .before .before .before .before .before .args in
+    let m = memory (a .home .now) (a .working .now) (a .log .now) in
+    recover-refused m (a .supply) _ (c .before .before .unreadable .result)
+    (refused-unread m _ (c .before .before .unreadable .ensures) (c .before .if1 .taken))
+    (c .before .if1 .taken)
+    refl
+    refl
+    (c .lost-state .ensures)
+    refl
+
+-- the buffers at the start, where the log can be read
+abbrev before : tie.Else1 → Memory
+before c =
+    let a = c .before .before .before .before .before .before .before .before .args in
+    memory (a .home .now) (a .working .now) (a .log .now)
+
+zero : (c : tie.Else1) → 0 ≡ numberOf (unreadableRows (before c))
+zero c = sym (c .if1 .left) ∙ c .before .unreadable .ensures
+
+-- no record is bad, where it goes on
+good : (c : tie.Else2) → let m = before (c .before .before .before) in false ≡ any isBad (recordsOf (length (m .home)) (m .log))
+good c = sym (c .if2 .left) ∙ c .before .scan .ensures .bad
+
+cast-words : tie.Need-cast-words
+cast-words c =
+    let r = fits-unread (before c) (zero c) in
+    let w = r .width in
+    omega arith
+
+scan-requires : tie.Need-scan-requires
+scan-requires c κs = search needs
+
+lost-state-requires-2 : tie.Need-lost-state-requires-2
+lost-state-requires-2 c κs = search needs
+
+same-length-4 : tie.Need-same-length-4
+same-length-4 c = search needs
+
+same-length-5 : tie.Need-same-length-5
+same-length-5 c = search needs
+
+same-length-6 : tie.Need-same-length-6
+same-length-6 c = search needs
+
+returns-2 : tie.Need-returns-2
+returns-2 c =
+    let read = c .before .before .before .before in
+    let a = read .before .before .before .before .before .before .before .before .args in
+    recover-refused (before read) (a .supply) _ 14
+    (refused-damaged (before read) (zero read) (sym (c .before .if2 .taken) ∙ c .before .before .scan .ensures .bad))
+    (λ e. omega arith)
+    refl
+    refl
+    (c .lost-state2 .ensures)
+    refl
+
+slots-requires : tie.Need-slots-requires
+slots-requires c κs = search needs
+
+cast-slots : tie.Need-cast-slots
+cast-slots c =
+    let read = c .before .before .before .before .before in
+    let r = fits-unread (before read) (zero read) in
+    let e = c .slots .ensures in
+    omega arith
+
+replay-requires : tie.Need-replay-requires
+replay-requires c κs = search needs
+
+set-head-requires : tie.Need-set-head-requires
+set-head-requires c κs = search needs
+
+cut-requires : tie.Need-cut-requires
+cut-requires c κs = search needs
+
+same-length-7 : tie.Need-same-length-7
+same-length-7 c = search needs
+
+same-length-8 : tie.Need-same-length-8
+same-length-8 c = search needs
+
+same-length-9 : tie.Need-same-length-9
+same-length-9 c = search needs
+
+returns-3 : tie.Need-returns-3
+returns-3 c =
+    let headed = c .before .before .before .before .before .before .before in
+    let replayed = headed .before .before .before .before in
+    let on = replayed .before .before .before .before .before in
+    let read = on .before .before .before in
+    let a = read .before .before .before .before .before .before .before .before .args in
+    let out = c .before .before .cut .ensures in
+    recover-cut (before read) (a .supply) _ (zero read) (good on) (replayed .replay .result) (on .before .scan .result .tail)
+    (replayed .replay .ensures .0)
+    (on .before .scan .ensures .tail)
+    (replayed .replay .ensures .1)
+    (headed .set-head .ensures .1)
+    (c .before .before .before .before .if3 .taken)
+    (out .0 .0)
+    (out .0 .1 .0)
+    (out .0 .1 .1)
+    (out .1)
+
+copy-requires : tie.Need-copy-requires
+copy-requires c κs =
+    let replayed = c .before .before .before .before .before .before .before .before .before in
+    let read = replayed .before .before .before .before .before .before .before .before in
+    fits-unread (before read) (zero read) .working ∙ sym (replayed .replay .kept .0)
+
+fresh-state-requires : tie.Need-fresh-state-requires
+fresh-state-requires c κs =
+    let replayed = c .before .before .before .before .before .before .before .before .before .before .before .before in
+    let read = replayed .before .before .before .before .before .before .before .before in
+    fits-unread (before read) (zero read) .width .most
+
+same-length-10 : tie.Need-same-length-10
+same-length-10 c = search needs
+
+same-length-11 : tie.Need-same-length-11
+same-length-11 c = search needs
+
+same-length-12 : tie.Need-same-length-12
+same-length-12 c = search needs
+
+returns-4 : tie.Need-returns-4
+returns-4 c =
+    let headed = c .before .before .before .before .before .before .before .before .before in
+    let replayed = headed .before .before .before .before in
+    let on = replayed .before .before .before .before .before in
+    let read = on .before .before .before in
+    let a = read .before .before .before .before .before .before .before .before .args in
+    recover-done (before read) (a .supply) _ (zero read) (good on) (replayed .replay .result) (on .before .scan .result .tail)
+    (replayed .replay .ensures .0)
+    (on .before .scan .ensures .tail)
+    (replayed .replay .ensures .1)
+    (headed .set-head .ensures .1)
+    (replayed .before .before .before .slots .result)
+    (replayed .before .before .before .slots .ensures)
+    (c .before .before .before .before .before .before .if3 .left)
+    refl
+    (headed .set-head .ensures .0)
+    (c .fresh-state .ensures)
+    (c .before .before .before .copy .ensures)
+
+pub recover-spec : {M : Type 1} → statement M
+recover-spec =
+    tie.close
+    (tie.spec
+    unreadable-requires
+    lost-state-requires
+    same-length
+    same-length-2
+    same-length-3
+    returns
+    cast-words
+    scan-requires
+    lost-state-requires-2
+    same-length-4
+    same-length-5
+    same-length-6
+    returns-2
+    slots-requires
+    cast-slots
+    replay-requires
+    set-head-requires
+    cut-requires
+    same-length-7
+    same-length-8
+    same-length-9
+    returns-3
+    copy-requires
+    fresh-state-requires
+    same-length-10
+    same-length-11
+    same-length-12
+    returns-4)

@@ -1,0 +1,164 @@
+-- The rows that refuse a store, and what is known of one that none of them refuses.
+use Prim.Native.Nat.{ℕ, _+_, _-_, _*_, _≤_, _<_}
+use mathlib.Core.Path.{_≡_, refl, sym, _∙_}
+use mathlib.Core.Bool.{Bool, false, cond, _&&_, not}
+use mathlib.Core.List.{List, [], _∷_, _++_, map}
+use native.Mathlib.Omega.{arith}
+use borrow.Author.Tests.{ltb-false, leb-false}
+use lib.Dec.{eqb, ltb, leb}
+use lib.ListN.{length, getD, take, set, replicate}
+use Rattle.log.specs.declared.Record.{Record}
+use Rattle.log.specs.Stores.{storedUnder}
+use Rattle.log.specs.Region.{numbers, slotsOf, recordsStores}
+use Rattle.log.specs.Holding.{Every}
+use Rattle.parts.specs.Waiting.{waiting}
+use Rattle.model.specs.Machine.{Machine, Memory, lostMachine, freeSlots, isOpen}
+use Rattle.model.specs.Plan.{append, planned}
+use Rattle.model.specs.Refusals.{Row, row, held, unless, numberOf, common, unknownThread, unknownWord, notOpen, noRoom}
+use Rattle.model.specs.Step.{store, planOf, stepped}
+use Rattle.model.specs.Steps.{undoRecords, undoRedoRecord, storeLogs, storeNext, heldByAnother, storePlan}
+use Rattle.model.proofs.Outcomes.{none-apply, number-first, number-then, outcome-refused}
+use Rattle.model.proofs.Fit.{Fit, fit}
+use Rattle.machine.specs.declared.State.{State}
+use Rattle.machine.specs.declared.Answer.{Answer}
+use Rattle.machine.specs.View.{view, shown}
+use Rattle.machine.proofs.Oldest.{length-oldest}
+use Rattle.machine.proofs.Refused.{refused-then}
+use Rattle.machine.proofs.Outcome.{Width, width}
+use Rattle.machine.proofs.Appending.{room, append-done, append-cut}
+use Rattle.machine.proofs.Filing.{logs-most, waiting-length}
+
+-- whether thread and word are known, and what is asked of those that are
+abbrev pub placeRows : Machine → ℕ → ℕ → List Row
+placeRows m t w = unknownThread t ∷ unknownWord m w ∷ []
+
+abbrev pub lateRows : Machine → ℕ → ℕ → Bool → List Row
+lateRows m t w same =
+    notOpen m t ∷ row (heldByAnother m t w) held ∷ noRoom m (undoRecords (storeLogs m w same) m)
+
+abbrev pub storeRows : Machine → Memory → ℕ → ℕ → ℕ → List Row
+storeRows m mem t w v = common m mem ++ (placeRows m t w ++ lateRows m t w (eqb v (getD (mem .working) w 0)))
+
+-- the records that a store appends are as many as the entries that it logs first
+pub store-records : (s : State) (w : ℕ) (same : Bool) → length (undoRecords (storeLogs (view s) w same) (view s)) ≡ storeLogs (view s) w same
+store-records s w same =
+    let few = logs-most (view s) w same .1 in
+    let len = waiting-length (s .undos) in
+    length-oldest undoRedoRecord (storeLogs (view s) w same) (s .undos) (omega arith)
+
+-- the numbers of these rows, as the code computes them
+pub place-number : (m : Machine) (t w n k : ℕ) → k ≡ cond (leb (m .words) w) 5 0 → n ≡ cond (ltb 7 t) 4 k → n ≡ numberOf (placeRows m t w)
+unfolding numberOf
+place-number m t w n k second first = rw (first, second)
+
+pub late-number : (s : State) (t w : ℕ) (same taken : Bool) (k a b n : ℕ) → k ≡ storeLogs (view s) w same → taken ≡ heldByAnother (view s) t w
+    → n ≡ cond (ltb (freeSlots (view s)) k) 10 (cond (ltb 0 k && ltb numbers (s .tail + k)) 11 0) → b ≡ cond taken 8 n
+    → a ≡ cond (not (isOpen (view s) t)) 6 b → a ≡ numberOf (lateRows (view s) t w same)
+unfolding numberOf
+late-number s t w same taken k a b n count other none second first =
+    let e : length (undoRecords (storeLogs (view s) w same) (view s)) ≡ k = store-records s w same ∙ sym count in
+    rw (e, first, second, none, other)
+
+-- none of the rows of thread and word applies, if their number is 0
+pub place-passed : (m : Machine) (t w n : ℕ) → n ≡ numberOf (placeRows m t w) → n ≡ 0 → Every (λ r. r .applies ≡ false) (placeRows m t w)
+place-passed m t w n e none = none-apply (placeRows m t w) (omega arith, (omega arith, tt)) (sym e ∙ none)
+
+-- where the common rows let a store pass, and n is the number of those of thread and word
+module _ (m : Machine) (mem : Memory) (t w v k n : ℕ) (first : k ≡ numberOf (common m mem)) (pass : k ≡ 0)
+    (second : n ≡ numberOf (placeRows m t w)) where
+  abbrev late : List Row
+  late = lateRows m t w (eqb v (getD (mem .working) w 0))
+
+  -- they refuse it, or the later ones decide
+  pub place-refused : (n ≡ 0 → ⊥) → n ≡ numberOf (storeRows m mem t w v)
+  place-refused some =
+      sym (number-first (placeRows m t w) late n (sym second) some) ∙ refused-then m mem (placeRows m t w ++ late) k first pass
+
+  pub late-decides : n ≡ 0 → numberOf late ≡ numberOf (storeRows m mem t w v)
+  late-decides none =
+      sym (number-then (placeRows m t w) late (place-passed m t w n second none))
+      ∙ refused-then m mem (placeRows m t w ++ late) k first pass
+
+module _ (m : Machine) (mem : Memory) (t w : ℕ) where
+  -- thread and word are known, and the state fits the lent buffers
+  pub record Known : Type 0 where
+    pub fits : Fit m mem
+    pub thread : t < 8
+    pub word : w < m .words
+    pub width : Width (m .words)
+
+  pub known : Every (λ r. r .applies ≡ false) (common m mem) → Every (λ r. r .applies ≡ false) (placeRows m t w) → Known
+  known first none =
+      let fits = fit m mem first in
+      let known-thread = ltb-false 7 t (none .0) in
+      record {
+        fits = fits;
+        thread = omega arith;
+        word = leb-false (m .words) w (none .1 .0);
+        width = width (m .words) (fits .clauses .width);
+      }
+
+-- what a store hands back, by its refusals
+module _ (s : State) (mem : Memory) (c t w v : ℕ) where
+  abbrev same : Bool
+  same = eqb v (getD (mem .working) w 0)
+
+  abbrev records : List Record
+  records = undoRecords (storeLogs (view s) w same) (view s)
+
+  store-plan : planOf (store t w v) (view s) mem
+      ≡ unless (storeRows (view s) mem t w v)
+      (planned (map append records) (storeNext (view s) mem t w v same) (set (mem .working) w v))
+  unfolding planOf storePlan
+  store-plan = refl
+
+  -- refused: all is as it was
+  pub store-refused : (n : ℕ) → n ≡ numberOf (storeRows (view s) mem t w v) → (n ≡ 0 → ⊥)
+      → record { answer = n; left = c; machine = view s; memory = mem } ≡ stepped (store t w v) c (view s) mem
+  store-refused n e some =
+      sym
+      (outcome-refused (store t w v) c (view s) mem (storeRows (view s) mem t w v) (map append records)
+      (storeNext (view s) mem t w v same) (set (mem .working) w v) store-plan n (sym e) some refl)
+
+  -- none of the rows applies
+  pub record Allowed : Type 0 where
+    pub none : Every (λ r. r .applies ≡ false) (storeRows (view s) mem t w v)
+    pub known : Known (view s) mem t w
+    pub below : s .tail + storeLogs (view s) w same ≤ numbers
+
+  pub allowed : numberOf (storeRows (view s) mem t w v) ≡ 0 → Allowed
+  allowed e =
+      let none = none-apply (storeRows (view s) mem t w v) positive e in
+      let fits = known (view s) mem t w (none .0, (none .1 .0, (none .1 .1 .0, tt))) (none .1 .1 .1 .0, (none .1 .1 .1 .1 .0, tt)) in
+      let full = room (view s) records (fits .fits .clauses .tail) (none .1 .1 .1 .1 .1 .1 .1 .1 .0) in
+      let size = store-records s w same in
+      record { none = none; known = fits; below = omega arith }
+    where
+      positive : Every (λ r. 0 < r .number) (storeRows (view s) mem t w v)
+      positive = (
+        omega arith,
+        (omega arith, (omega arith, (omega arith, (omega arith, (omega arith, (omega arith, (omega arith, (omega arith, tt)))))))),
+      )
+
+  module _ (a : Allowed) (k : ℕ) (count : k ≡ storeLogs (view s) w same) (r : Answer) (log : List ℕ) (rest : ℕ)
+      (left : rest ≡ c - length (recordsStores (slotsOf (mem .log)) (s .tail) (map undoRedoRecord (take k (waiting (s .undos))))))
+      (appended : log ≡ storedUnder c (mem .log) (recordsStores (slotsOf (mem .log)) (s .tail) (map undoRedoRecord (take k (waiting (s .undos)))))) where
+    -- the supply was enough
+    pub store-done : 3 * k ≤ c → r .answer ≡ 0 → r .left ≡ rest → view (r .state) ≡ storeNext (view s) mem t w v same
+        → shown r (mem .home) (set (mem .working) w v) log ≡ stepped (store t w v) c (view s) mem
+    store-done h answer kept state =
+        let size = store-records s w same in
+        let below = a .below in
+        append-done (store t w v) c (view s) mem (storeRows (view s) mem t w v) records (storeNext (view s) mem t w v same)
+        (set (mem .working) w v) store-plan (a .none) (a .known .fits) (omega arith) r log (omega arith)
+        (record { left = kept ∙ rw count at left; log = rw count at appended }) answer state
+
+    -- it was not
+    pub store-cut : (working : List ℕ) → c < 3 * k → (r .answer ≡ 255) × ((r .left ≡ 0) × (view (r .state) ≡ lostMachine))
+        → working ≡ replicate (length (mem .working)) 0 → shown r (mem .home) working log ≡ stepped (store t w v) c (view s) mem
+    store-cut working h answer cleared =
+        let size = store-records s w same in
+        let below = a .below in
+        append-cut (store t w v) c (view s) mem (storeRows (view s) mem t w v) records (storeNext (view s) mem t w v same)
+        (set (mem .working) w v) store-plan (a .none) (a .known .fits) (omega arith) r working log rest (omega arith)
+        (record { left = rw count at left; log = rw count at appended }) answer cleared

@@ -1,0 +1,43 @@
+-- `count_records` meets its contract.
+use Prim.Native.Nat.{_*_, _/_, _≤_}
+use native.Mathlib.Omega.{arith}
+use borrow.Author.Needs.{needs}
+use Rattle.parts.specs.Lines.{firstLines}
+use Rattle.machine.proofs.Newest.{newest-few}
+use Rattle.machine.proofs.Commits.{commit-count}
+use Rattle.machine.proofs.committing.count_records.Statement.{statement}
+use Rattle.machine.proofs.committing.count_records.Tie as tie
+
+cast-count-newest : tie.Need-cast-count-newest
+cast-count-newest c = search needs
+
+count-newest-requires : tie.Need-count-newest-requires
+count-newest-requires c κs = search needs
+
+add-result : tie.Need-add-result
+add-result c = search needs
+
+-- at most as many ULog words as words
+few : (c : tie.After-struct-known2) → c .before .count-newest .result ≤ 512
+few c =
+    let a = c .before .before .before .before .args in
+    let n = a .state .words / 8 in
+    omega (arith, newest-few (firstLines n (a .state .lines)) (a .thread) (8 * n), c .before .count-newest .ensures, c .before .before .before .before .pre)
+
+add-result-2 : tie.Need-add-result-2
+add-result-2 c = omega (arith, few c)
+
+add-result-3 : tie.Need-add-result-3
+add-result-3 c = omega (arith, few c)
+
+returns : tie.Need-returns
+returns c =
+    let a = c .before .before .before .before .args in
+    let p = c .before .before .before .before .pre in
+    let n = c .before .count-newest in
+    (λ mem. commit-count (a .state) mem (a .thread) (n .result) (p .1 .0) (n .ensures), omega (arith, few c))
+
+pub count-records-spec : {M : Type 1} → statement M
+count-records-spec =
+    tie.close
+    (tie.spec cast-count-newest count-newest-requires add-result add-result-2 add-result-3 returns)

@@ -1,0 +1,34 @@
+-- `undos_logged` meets its contract: the oldest entries are gone, their words are marked, and the tail is past their records.
+use Prim.Native.Nat.{_/_}
+use mathlib.Core.Path.{_≡_, sym, _∙_}
+use mathlib.Core.List.{map}
+use native.Mathlib.Omega.{arith}
+use lib.ListN.{length, take, drop}
+use Rattle.parts.specs.Waiting.{waiting}
+use Rattle.parts.proofs.Waiting.{changed-within}
+use Rattle.model.specs.Steps.{undoRedoRecord}
+use Rattle.machine.proofs.Oldest.{length-oldest}
+use borrow.Author.Needs.{needs}
+use Rattle.machine.proofs.words.undos_logged.Statement.{statement}
+use Rattle.machine.proofs.words.undos_logged.Tie as tie
+
+drop-oldest-requires : tie.Need-drop-oldest-requires
+drop-oldest-requires c κs = search needs
+
+all-logged-requires : tie.Need-all-logged-requires
+all-logged-requires c κs = search needs
+
+add-next : tie.Need-add-next
+add-next c = search needs
+
+returns : tie.Need-returns
+returns c =
+    let a = c .before .before .before .before .before .args in
+    let b = a .state .undos in
+    let rest : waiting (c .before .before .drop-oldest .result) ≡ drop (a .count) (waiting b) =
+    c .before .before .drop-oldest .ensures ∙ sym (changed-within b (drop (a .count) (waiting b)) (omega arith)) in
+    let n : length (map undoRedoRecord (take (a .count) (waiting b))) ≡ a .count = length-oldest undoRedoRecord (a .count) b (omega arith) in
+    rw (rest, n, c .before .all-logged .ensures (a .state .words / 8) (omega arith))
+
+pub undos-logged-spec : {M : Type 1} → statement M
+undos-logged-spec = tie.close (tie.spec drop-oldest-requires all-logged-requires add-next returns)

@@ -91,7 +91,10 @@ recover-requires c κs = search needs
 
 -- src/stepping.rt:12:5
 returns : tie.Need-returns
-returns c = rw (c .before .before .before .step .given .1) (begun (c .before .begin .result) _ _ (c .before .before .before .before .before .before .before .before .args .self) _ _ _ (c .before .begin .ensures))
+returns c =
+    let d = c .before .before .before in
+    rw (d .step .given .1)
+    (begun (c .before .begin .result) _ _ (d .before .before .before .before .before .args .self) _ _ _ (c .before .begin .ensures))
 
 -- src/stepping.rt:12:5
 same-length : tie.Need-same-length
@@ -107,7 +110,9 @@ same-length-3 c = search needs
 
 -- src/stepping.rt:12:5
 returns-2 : tie.Need-returns-2
-returns-2 c = rw (c .before .before .before .before .before .before .before .before .before .before .before .step2 .given .1) (c .before .before .before .before .before .before .store .ensures)
+returns-2 c =
+    let d = c .before .before .before .before .before .before in
+    rw (d .before .before .before .before .before .step2 .given .1) (d .store .ensures)
 
 -- src/stepping.rt:12:5
 same-length-4 : tie.Need-same-length-4
@@ -123,7 +128,9 @@ same-length-6 c = search needs
 
 -- src/stepping.rt:12:5
 returns-3 : tie.Need-returns-3
-returns-3 c = rw (c .before .before .before .before .before .before .before .before .before .before .enum-told .given .1) (c .before .before .before .before .before .before .log-undo .ensures)
+returns-3 c =
+    let d = c .before .before .before .before .before .before in
+    rw (d .before .before .before .before .enum-told .given .1) (d .log-undo .ensures)
 
 -- src/stepping.rt:12:5
 same-length-7 : tie.Need-same-length-7
@@ -139,7 +146,9 @@ same-length-9 c = search needs
 
 -- src/stepping.rt:12:5
 returns-4 : tie.Need-returns-4
-returns-4 c = rw (c .before .before .before .before .before .before .before .before .before .before .enum-told2 .given .1) (c .before .before .before .before .before .before .log-redo .ensures)
+returns-4 c =
+    let d = c .before .before .before .before .before .before in
+    rw (d .before .before .before .before .enum-told2 .given .1) (d .log-redo .ensures)
 
 -- src/stepping.rt:12:5
 same-length-10 : tie.Need-same-length-10
@@ -155,7 +164,9 @@ same-length-12 c = search needs
 
 -- src/stepping.rt:12:5
 returns-5 : tie.Need-returns-5
-returns-5 c = rw (c .before .before .before .before .before .before .before .before .before .before .before .step3 .given .1) (c .before .before .before .before .before .before .evict .ensures)
+returns-5 c =
+    let d = c .before .before .before .before .before .before in
+    rw (d .before .before .before .before .before .step3 .given .1) (d .evict .ensures)
 
 -- src/stepping.rt:12:5
 same-length-13 : tie.Need-same-length-13
@@ -171,7 +182,9 @@ same-length-15 c = search needs
 
 -- src/stepping.rt:12:5
 returns-6 : tie.Need-returns-6
-returns-6 c = rw (c .before .before .before .before .before .before .before .before .before .before .before .step4 .given .1) (c .before .before .before .before .before .before .write-back .ensures)
+returns-6 c =
+    let d = c .before .before .before .before .before .before in
+    rw (d .before .before .before .before .before .step4 .given .1) (d .write-back .ensures)
 
 -- src/stepping.rt:12:5
 same-length-16 : tie.Need-same-length-16
@@ -187,7 +200,9 @@ same-length-18 c = search needs
 
 -- src/stepping.rt:12:5
 returns-7 : tie.Need-returns-7
-returns-7 c = rw (c .before .before .before .before .before .before .before .before .before .before .before .step5 .given .1) (c .before .before .before .before .before .before .commit .ensures)
+returns-7 c =
+    let d = c .before .before .before .before .before .before in
+    rw (d .before .before .before .before .before .step5 .given .1) (d .commit .ensures)
 
 -- src/stepping.rt:12:5
 same-length-19 : tie.Need-same-length-19
@@ -203,7 +218,9 @@ same-length-21 c = search needs
 
 -- src/stepping.rt:12:5
 returns-8 : tie.Need-returns-8
-returns-8 c = rw (c .before .before .before .before .before .before .before .before .before .before .enum-told3 .given .1) (c .before .before .before .before .before .before .delete-oldest .ensures)
+returns-8 c =
+    let d = c .before .before .before .before .before .before in
+    rw (d .before .before .before .before .enum-told3 .given .1) (d .delete-oldest .ensures)
 
 -- src/stepping.rt:12:5
 same-length-22 : tie.Need-same-length-22
@@ -219,7 +236,10 @@ same-length-24 c = search needs
 
 -- src/stepping.rt:12:5
 returns-9 : tie.Need-returns-9
-returns-9 c = rw (c .before .before .before .before .before .before .before .before .before .before .enum-told4 .given .1) (c .before .before .before .before .before .before .recover .ensures ∙ sym (recover-any _ (view (c .before .before .before .before .before .before .before .before .before .before .before .before .before .before .before .args .self)) _))
+returns-9 c =
+    let d = c .before .before .before .before .before .before in
+    rw (d .before .before .before .before .enum-told4 .given .1)
+    (d .recover .ensures ∙ sym (recover-any _ (view (d .before .before .before .before .before .before .before .before .before .args .self)) _))
 
 pub step-spec : {M : Type 1} → statement M
 step-spec =

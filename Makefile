@@ -1,9 +1,9 @@
-# make run: builds what it needs and shows the log at work. make test: the gate.
+# make run: builds the program `scenarios` and shows its table. make test: the gate.
 .PHONY: run test
 
 run:
-	@rt check records >/dev/null
-	@target/bin/records
+	@rt check scenarios > /dev/null
+	@target/bin/scenarios < crates/scenarios/stdin
 
 test:
 	@.ci/run

@@ -1,0 +1,153 @@
+// A scenario under way: the state and the buffers, and what came out and what is expected.
+use crate::lists::least;
+use crate::lists::same;
+use crate::lists::within;
+use machine::State;
+use machine::Step;
+
+// The room for steps, and for slots that are shown.
+const STEPS: usize = 32;
+
+const SHOWN: usize = 4;
+
+// `lent` has the lengths that are lent of home, working and log. `answer` and `made` are of the steps since the last note: the first
+// answer that is not 0, and the stores of all. `kept` tells that no refused step has changed a buffer, `known` that the table's text
+// was understood. At the end home word 0, working word 0 and the log's head are expected to be `ends`, once `given` is 3, and the
+// slots `slots` to have the words `shown`, three each.
+pub struct Bench {
+    pub state: State,
+    pub home: [u64; 64],
+    pub working: [u64; 64],
+    pub log: [u64; 256],
+    pub lent: [u64; 3],
+    pub answer: u64,
+    pub made: u64,
+    pub count: usize,
+    pub answers: [u64; 32],
+    pub wanted: [u64; 32],
+    pub stores: [u64; 32],
+    pub allowed: [u64; 32],
+    pub kept: bool,
+    pub known: bool,
+    pub given: u64,
+    pub ends: [u64; 3],
+    pub slots: [usize; 4],
+    pub shown: [u64; 12],
+    pub shows: usize,
+}
+
+// No state has been handed back yet: a refused recovery gives the lost one.
+fn lost() -> State {
+    let mut home = [0u64; 8];
+    let mut working = [0u64; 8];
+    let mut log = [0u64; 24];
+    let refused = State::recover(&mut home, &mut working, &mut log, 0);
+    refused.state
+}
+
+// W = 8, L = 8, home 0, and a fresh log.
+pub fn fresh() -> Bench {
+    let state = lost();
+    Bench {
+        state,
+        home: [0; 64],
+        working: [0; 64],
+        log: [0; 256],
+        lent: [8, 8, 25],
+        answer: 0,
+        made: 0,
+        count: 0,
+        answers: [0; 32],
+        wanted: [0; 32],
+        stores: [0; 32],
+        allowed: [0; 32],
+        kept: true,
+        known: true,
+        given: 0,
+        ends: [0; 3],
+        slots: [0; 4],
+        shown: [0; 12],
+        shows: 0,
+    }
+}
+
+impl Bench {
+    // The buffers after a step, and its answer.
+    fn now_has(
+        mut self,
+        home: [u64; 64],
+        working: [u64; 64],
+        log: [u64; 256],
+        answer: u64,
+    ) -> Bench {
+        let a = self.home;
+        let b = self.working;
+        let c = self.log;
+        if (answer != 0) & (answer != 255) {
+            let words = same(64, &a, &home) & same(64, &b, &working);
+            self.kept = self.kept & (words & same(256, &c, &log));
+        }
+        self.home = home;
+        self.working = working;
+        self.log = log;
+        if self.answer == 0 {
+            self.answer = answer;
+        }
+        self
+    }
+
+    // One step under a supply, not noted yet.
+    pub fn tries(mut self, supply: u64, step: Step) -> Bench {
+        let state = self.state;
+        let mut home = self.home;
+        let mut working = self.working;
+        let mut log = self.log;
+        let h = within(self.lent[0], &home);
+        let w = within(self.lent[1], &working);
+        let l = within(self.lent[2], &log);
+        let r = state.step(
+            step,
+            &mut home[..h],
+            &mut working[..w],
+            &mut log[..l],
+            supply,
+        );
+        let next = r.state;
+        self.state = next;
+        let stores = std::num::wrapping_sub_u64(supply, r.left);
+        self.made = std::num::wrapping_add_u64(self.made, stores);
+        self.now_has(home, working, log, r.answer)
+    }
+
+    // What came out since the last note, and the answer and the stores that are expected.
+    pub fn notes(mut self, answer: u64, stores: u64) -> Bench {
+        let n = self.count;
+        if n < STEPS {
+            self.answers[n] = self.answer;
+            self.wanted[n] = answer;
+            self.stores[n] = self.made;
+            self.allowed[n] = stores;
+            self.count = n + 1;
+        } else {
+            self.known = false;
+        }
+        self.answer = 0;
+        self.made = 0;
+        self
+    }
+
+    // At the end a slot is expected to have these words.
+    pub fn expects_slot(mut self, slot: u64, undo: u64, redo: u64, header: u64) -> Bench {
+        let n = self.shows;
+        if n < SHOWN {
+            self.slots[n] = least(slot, 80);
+            self.shown[3 * n] = undo;
+            self.shown[3 * n + 1] = redo;
+            self.shown[3 * n + 2] = header;
+            self.shows = n + 1;
+        } else {
+            self.known = false;
+        }
+        self
+    }
+}

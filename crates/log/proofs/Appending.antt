@@ -2,6 +2,7 @@
 use Prim.Native.Nat.{ℕ, zero, suc, _+_, _-_, _*_, _/_, _%_, _≤_, _<_}
 use mathlib.Core.Path.{_≡_, refl, sym, ap, _∙_}
 use mathlib.Core.List.{List, [], _∷_, _++_, append-assoc, append-nil}
+use native.Mathlib.Nat.{add-zero}
 use native.Mathlib.Decide.{decLt}
 use native.Mathlib.Omega.{arith}
 use borrow.Author.Tests.{lt-ltb}
@@ -21,6 +22,25 @@ use Rattle.log.proofs.Holding.{every-append, torn-same}
 stores-of : (l n : ℕ) (r : Record) → 0 < l → n < numbers → recordStores l n r ≡ shifted (placeOf l n) (slotStores (tornBit l n) r)
 unfolding recordStores
 stores-of l n r some below = rw (lt-ltb 0 l some, lt-ltb n numbers below)
+
+-- a list of no records has no stores
+pub records-none : (l n : ℕ) → recordsStores l n [] ≡ []
+unfolding recordsStores
+records-none l n = refl
+
+-- a list of one record has those of the record
+pub records-one : (l n : ℕ) (r : Record) → recordsStores l n (r ∷ []) ≡ recordStores l n r
+unfolding recordsStores
+records-one l n r = append-nil (recordStores l n r)
+
+-- records and then others have the stores of the first ones, and then those of the others under the numbers that follow
+pub records-append : (l n : ℕ) (rs new : List Record) → recordsStores l n (rs ++ new) ≡ recordsStores l n rs ++ recordsStores l (n + length rs) new
+unfolding recordsStores
+records-append l n [] new = rw add-zero
+records-append l n (r ∷ rs) new =
+    let e : n + 1 + length rs ≡ n + length (r ∷ rs) = omega arith in
+    rw (records-append l (n + 1) rs new, e)
+    (sym (append-assoc (recordStores l n r) (recordsStores l (n + 1) rs) (recordsStores l (n + length (r ∷ rs)) new)))
 
 -- a record takes three stores
 pub size-of-record : (l n : ℕ) (r : Record) → 0 < l → n < numbers → length (recordStores l n r) ≡ 3

@@ -1,12 +1,16 @@
--- A header's fields read back are those written, and so is the record.
-use Prim.Native.Nat.{ℕ, _^_, _≤_, _<_}
+-- A header's fields read back are those written, and so is the record; and what is decoded is bad or a valid record.
+use Prim.Native.Nat.{ℕ, zero, suc, _^_, _≤_, _<_}
 use mathlib.Core.Path.{_≡_, refl}
+use mathlib.Core.Bool.{Bool, true, false, cond, _&&_}
+use native.Mathlib.Decide.{decLt}
 use native.Mathlib.Omega.{arith}
-use borrow.Author.Tests.{lt-ltb}
+use borrow.Author.Tests.{lt-ltb, le-ltb}
+use lib.Dec.{eqb}
 use Rattle.log.specs.declared.Record.{Record}
 use Rattle.log.specs.declared.Record.the-variants.{UndoRedo, Redo, Commit}
-use Rattle.log.specs.declared.Reading.the-variants.{Good}
-use Rattle.log.specs.Layout.{typeOf, threadOf, wordOf, undoOf, redoOf, headerOf, wordIn, threadIn, typeIn, tornIn, restIn, ofType, decoded}
+use Rattle.log.specs.declared.Reading.{Reading}
+use Rattle.log.specs.declared.Reading.the-variants.{Good, Bad}
+use Rattle.log.specs.Layout.{typeOf, threadOf, wordOf, undoOf, redoOf, headerOf, wordIn, threadIn, typeIn, tornIn, restIn, goodIf, ofType, decoded}
 use Rattle.log.specs.Holding.{Valid}
 
 -- the fields of a header are those of the record, with the torn bit
@@ -44,3 +48,43 @@ unfolding decoded
 decode-back words torn r narrow bit valid =
     let f : Fields (headerOf torn r) torn r = fields torn r bit (valid .thread) (omega arith) in
     simp (f .thread, f .word, f .type, f .rest, lt-ltb (threadOf r) 8 (valid .thread), lt-ltb (wordOf r) words (valid .word)) (of-type r)
+
+-- a reading is bad or of a valid record
+abbrev pub BadOrValid : ℕ → Reading → Type 0
+BadOrValid words (Good r) = Valid words r
+BadOrValid words Bad = Unit {0}
+
+-- and so is one that hangs on a test
+pub valid-if : (words : ℕ) (t : Bool) (x : Reading) → BadOrValid words x → BadOrValid words (cond t x Bad)
+valid-if words true x v = v
+valid-if words false x v = tt
+
+-- a good reading that hangs on a test
+valid-good : (words : ℕ) (t : Bool) (r : Record) → Valid words r → BadOrValid words (goodIf t r)
+valid-good words true r v = v
+valid-good words false r v = tt
+
+-- the record of a type, its thread and word being good
+valid-type : (words type thread word undo redo : ℕ) → thread < 8 → word < words → BadOrValid words (ofType type thread word undo redo)
+valid-type words zero thread word undo redo t w = tt
+valid-type words (suc zero) thread word undo redo t w = record { thread = t; word = w }
+valid-type words (suc (suc zero)) thread word undo redo t w = valid-good words (eqb undo 0) (Redo thread word redo) (record { thread = t; word = w })
+valid-type words (suc (suc (suc n))) thread word undo redo t w =
+    valid-good words (eqb undo 0 && (eqb redo 0 && eqb word 0)) (Commit thread) (record { thread = t; word = omega arith })
+
+-- what is decoded is bad or a valid record
+pub decode-valid : (words undo redo header : ℕ) → BadOrValid words (decoded words undo redo header)
+unfolding decoded
+decode-valid words undo redo header =
+    let t : ℕ = threadIn header in
+    let w : ℕ = wordIn header in
+    elim (decLt t 8) [
+      | yes p ↦
+          elim (decLt w words) [
+            | yes q ↦
+                rw (lt-ltb t 8 p, lt-ltb w words q)
+                (valid-if words (eqb (restIn header) 0) (ofType (typeIn header) t w undo redo) (valid-type words (typeIn header) t w undo redo p q))
+            | no q ↦ rw (lt-ltb t 8 p, le-ltb w words (omega arith)) tt
+          ]
+      | no p ↦ rw (le-ltb t 8 (omega arith)) tt
+    ]

@@ -64,6 +64,15 @@ zeros words l narrow least most =
           omega (arith, torn-zero l n (omega arith), div-eq-of-lt below, same);
     }
 
+-- where there are slots, the head is set by this store
+pub head-store : (l n : ℕ) → 0 < l → headStores l n ≡ record { at = 0; value = n } ∷ []
+unfolding headStores
+head-store l n some = rw (lt-ltb 0 l some)
+
+-- so a head takes one store
+pub size-of-head : (l n : ℕ) → 0 < l → length (headStores l n) ≡ 1
+size-of-head l n some = ap length (head-store l n some)
+
 -- a store to the head leaves every slot
 slot-head : (l n v : ℕ) (log : List ℕ) → slotAt l (set log 0 v) n ≡ slotAt l log n
 slot-head l n v log = ap (take 3) (drop-set-lt (placeOf l n) log 0 v (omega arith))
@@ -105,7 +114,7 @@ module _ {words l head : ℕ} {log : List ℕ} {rs : List Record} (holds : Holds
 
   -- the head moved on by k deletes the first k records: k = 1 is a delete, and k = length rs leaves none
   pub deleted : (k : ℕ) → k ≤ length rs → Holds words l (stored log (headStores l (head + k))) (head + k) (drop k rs)
-  unfolding stored headStores
+  unfolding stored
   deleted k few =
       let left : length (drop k rs) ≡ length rs - k = length-drop k rs in
       let moved : Holds words l (set log 0 (head + k)) (head + k) (drop k rs) =
@@ -122,4 +131,4 @@ module _ {words l head : ℕ} {log : List ℕ} {rs : List Record} (holds : Holds
         free = λ n lo hi same.
             free-from k n few (omega arith) hi (sym (torn-same l log (set log 0 (head + k)) n (slot-head l n (head + k) log)) ∙ same);
       } in
-      rw (lt-ltb 0 l (omega arith)) moved
+      rw (head-store l (head + k) (omega arith)) moved

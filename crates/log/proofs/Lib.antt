@@ -6,4 +6,5 @@ pub mod Coding
 pub mod Vectors
 pub mod Holding
 pub mod Appending
+pub mod Searching
 pub mod Readings

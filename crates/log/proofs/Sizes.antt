@@ -1,13 +1,12 @@
--- The size of a log with slots, where its slots lie, and which numbers the code turns away.
+-- The size of a log with slots, and which numbers the code turns away.
 use Prim.Native.Nat.{ℕ, zero, suc, _+_, _*_, _%_, _/_, _≤_, _<_}
-use native.Mathlib.Nat.{mod-lt}
 use native.Mathlib.Decide.{decLt}
 use native.Mathlib.Omega.{arith}
 use mathlib.Core.Bool.{Bool, true, false, cond, _&&_, _||_, not, true≢false}
 use mathlib.Core.Path.{_≡_, refl}
 use lib.Dec.{eqb, ltb, leb}
 use borrow.Author.Tests.{leb-true, eqb-true, lt-ltb, le-ltb, le-leb, lt-leb, ne-eqb}
-use Rattle.log.specs.Region.{numbers, slotsFor, placeOf}
+use Rattle.log.specs.Region.{numbers, slotsFor}
 
 -- n words are a log of l slots
 pub record Sized (n l : ℕ) : Type 0 where
@@ -25,10 +24,6 @@ sized n l e h = go (leb 25 n) (leb n 3073) (eqb (n % 3) 1) refl refl refl e
     go true true false p q r s = let f : ⊥ = omega arith in absurd f
     go true false d p q r s = let f : ⊥ = omega arith in absurd f
     go false b d p q r s = let f : ⊥ = omega arith in absurd f
-
--- the slot of any record lies within the log
-pub slot-within : (n l number : ℕ) → Sized n l → placeOf l number + 2 < n
-slot-within n l number s = let pos : 0 < l = omega arith in omega (arith, mod-lt number pos)
 
 -- the code turns a number away just where the definitions do
 pub turned : (l n : ℕ) → ltb 0 l && ltb n numbers ≡ not (eqb l 0 || leb numbers n)

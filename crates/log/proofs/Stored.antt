@@ -1,12 +1,31 @@
--- Lists of stores: the region after some of them, and then the others; and stores in a part of a region as stores of the whole.
-use Prim.Native.Nat.{ℕ, zero, suc, _+_, _-_, _≤_}
+-- Lists of stores: the region after none, one, or some of them and then the others; and stores in a part of a region as stores of the whole.
+use Prim.Native.Nat.{ℕ, zero, suc, _+_, _-_, _≤_, _<_}
 use native.Mathlib.Nat.{zero-sub, sub-zero, suc-sub-suc}
+use native.Mathlib.Decide.{ℕ-discrete}
 use native.Mathlib.Omega.{arith}
+use mathlib.Core.Bool.{cond}
 use mathlib.Core.Path.{_≡_, refl, sym, ap, _∙_}
 use mathlib.Core.List.{List, [], _∷_, _++_, map}
-use lib.ListN.{length, take, drop, set, take-append-drop, length-set}
-use lib.Seq.{take-nil, take-set-le, drop-set-add}
+use borrow.Author.Tests.{eq-eqb, ne-eqb}
+use lib.Dec.{eqb}
+use lib.ListN.{length, getD, take, drop, set, take-append-drop, length-set}
+use lib.Seq.{take-nil, take-set-le, drop-set-add, getD-set-same, getD-set-other}
 use Rattle.log.specs.Stores.{Store, stored, storedUnder, shift, shifted}
+
+-- with no stores the region is as it was
+pub stored-none : (xs : List ℕ) → stored xs [] ≡ xs
+unfolding stored
+stored-none xs = refl
+
+-- one store puts its value into its word and leaves every other word
+pub stored-one : (xs : List ℕ) (s : Store) (w : ℕ) → w < length xs
+    → getD (stored xs (s ∷ [])) w 0 ≡ cond (eqb (s .at) w) (s .value) (getD xs w 0)
+unfolding stored
+stored-one xs s w h =
+    elim (ℕ-discrete (s .at) w) [
+      | yes e ↦ rw (eq-eqb (s .at) w e, e) (getD-set-same xs w (s .value) 0 h)
+      | no ne ↦ rw (ne-eqb (s .at) w ne) (getD-set-other xs (s .at) w (s .value) 0 (λ e. ne (sym e)))
+    ]
 
 -- stores made one after the other, as one list
 pub stored-append : (xs : List ℕ) (ss ts : List Store) → stored xs (ss ++ ts) ≡ stored (stored xs ss) ts
@@ -54,5 +73,4 @@ under-part c base xs ss h = stored-part base xs (take c ss) h ∙ ap (stored xs)
 
 -- where there are no stores, supply and region are as they were
 pub under-none : (c : ℕ) (xs : List ℕ) (ss : List Store) → ss ≡ [] → (c ≡ c - length ss) × (xs ≡ storedUnder c xs ss)
-unfolding stored
-under-none c xs ss e = rw e (sym (sub-zero c), sym (ap (stored xs) (take-nil c)))
+under-none c xs ss e = rw (e, take-nil, stored-none) (sym (sub-zero c), refl)

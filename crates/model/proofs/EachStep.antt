@@ -1,47 +1,45 @@
 -- Each of the nine steps, refused, cut or done, leaves a world ready for recovery; and a recovery that is done brings the committed values home.
-use Prim.Native.Nat.{ℕ, zero, suc, _+_, _-_, _*_, _/_, _%_, _^_, _≤_, _<_}
+use Prim.Native.Nat.{ℕ, zero, suc, _+_, _-_, _/_, _%_, _<_}
 use mathlib.Core.Path.{_≡_, refl, sym, _∙_, ap, subst}
-use mathlib.Core.Bool.{Bool, true, false, cond, _&&_, _||_, not, true≢false}
-use mathlib.Core.List.{List, [], _∷_, _++_, map, append-nil}
-use mathlib.Core.Logic.{_⊎_, inl, inr}
+use mathlib.Core.Bool.{Bool, true, false, _&&_, not, true≢false}
+use mathlib.Core.List.{List, [], _∷_, _++_, map}
 use native.Mathlib.Omega.{arith}
-use native.Mathlib.Nat.{sub-zero, add-zero, not-suc-le-zero}
-use borrow.Author.Tests.{ltb-false, leb-false, leb-true, eqb-true, not-false, eqb-false, le-ltb, lt-ltb, eq-eqb, ne-eqb}
-use lib.Dec.{eqb, ltb, leb}
-use lib.ListN.{length, getD, take, drop, set, replicate, length-map, length-append, length-replicate, length-set}
-use lib.Seq.{take-all, take-nil}
+use native.Mathlib.Nat.{add-zero, not-suc-le-zero}
+use borrow.Author.Tests.{ltb-false, leb-false, leb-true, not-false, eqb-false}
+use lib.Dec.{eqb, leb}
+use lib.ListN.{length, getD, take, drop, set, replicate, length-replicate}
+use lib.Seq.{take-nil}
 use Rattle.log.specs.declared.Record.{Record}
 use Rattle.log.specs.declared.Reading.{Reading}
-use Rattle.log.specs.declared.Reading.the-variants.{Good, Bad}
-use Rattle.log.specs.Stores.{Store, stored}
-use Rattle.log.specs.Region.{numbers, slotsOf, headOf, tailOf, recordsOf, readBack, readFrom, headStores}
-use Rattle.log.specs.Holding.{Every, Valid, Holds}
-use Rattle.log.proofs.Stored.{length-stored}
-use Rattle.log.proofs.Holding.{slots-of, deleted}
-use Rattle.log.proofs.Readings.{tail-found, read-one, read-on, read-all}
-use Rattle.model.specs.Lists.{any, isEmpty}
-use Rattle.model.specs.Machine.{Machine, Memory, lostMachine, freshMachine, withHead, withTail, withOpened, withLines, withRedo}
-use Rattle.model.specs.Machine.{isOpen, wordsOf, stateIn, heldBy, dirtyAs, statesAs, changed}
+use Rattle.log.specs.declared.Reading.the-variants.{Good}
+use Rattle.log.specs.Stores.{Store}
+use Rattle.log.specs.Region.{slotsOf, readBack, readFrom, headStores}
+use Rattle.log.specs.Holding.{Holds}
+use Rattle.log.proofs.Stored.{stored-none, length-stored}
+use Rattle.log.proofs.Holding.{slots-of, size-of-head, deleted}
+use Rattle.log.proofs.Readings.{read-one, read-on}
+use Rattle.model.specs.Lists.{isEmpty}
+use Rattle.model.specs.Machine.{Machine, Memory, withHead, withTail, withOpened, withLines, withRedo}
+use Rattle.model.specs.Machine.{isOpen, stateIn, heldBy, dirtyAs, statesAs, changed}
 use Rattle.model.specs.Consistent.{isWidth, consistent}
-use Rattle.model.specs.Plan.{Put, Op, append, writeHome, setHead, putsOf, Plan, planned, Outcome, performed}
-use Rattle.model.specs.Refusals.{lost, inconsistent, busy, held, pending, nothing, damaged, needed, size, headTooHigh, row, unless}
-use Rattle.model.specs.Refusals.{common, unknownThread, unknownWord, unknownLine, notOpen, isPending, noRoom, wrongLengths}
+use Rattle.model.specs.Plan.{Put, append, writeHome, setHead, putsOf, performed}
+use Rattle.model.specs.Refusals.{lost, inconsistent, busy, held, pending, nothing, damaged, needed, row}
+use Rattle.model.specs.Refusals.{common, unknownThread, unknownWord, unknownLine, notOpen, isPending, noRoom}
 use Rattle.model.specs.Steps.{undoRecords, redoRecords, undosLogged, redosLogged, beginPlan, storeLogs, storedAs, storeNext}
 use Rattle.model.specs.Steps.{heldByAnother, storePlan, logUndoPlan, logRedoPlan, evicted, lacking, evictPlan, lineWrites}
 use Rattle.model.specs.Steps.{writeBackPlan, commitRecords, released, commitPlan, isBad, isNeeded, deletePlan}
-use Rattle.model.specs.Recovery.{recoveryWrites, records, recoverPlan}
-use Rattle.model.specs.Step.{Step, begin, store, logUndo, logRedo, evict, writeBack, commit, deleteOldest, recover, planOf, stepped}
+use Rattle.model.specs.Step.{Step, begin, store, logUndo, logRedo, evict, writeBack, commit, deleteOldest, planOf, stepped}
 use Rattle.model.specs.Book.{Book, entered, noted}
 use Rattle.model.proofs.Lists.{both-left}
-use Rattle.model.proofs.Core.{CoreOf, Safe, core-safe}
-use Rattle.model.proofs.Worlds.{Kept, Live, Ready, live, dark, Ends, finished, stopped, kept, live-kept}
-use Rattle.model.proofs.Performing.{puts, puts-home, puts-homes, puts-head, partly, ends, enough, done-memory}
-use Rattle.model.proofs.Steps.{guarded, stepped-planned, Onward, appending}
+use Rattle.model.proofs.Core.{CoreOf, core-safe}
+use Rattle.model.proofs.Worlds.{Live, Ready, live, dark, Ends, kept}
+use Rattle.model.proofs.Performing.{puts-homes, puts-head, partly, ends}
+use Rattle.model.proofs.Steps.{guarded, Onward, appending}
 use Rattle.model.proofs.Logging.{logUndo-step, logRedo-step}
 use Rattle.model.proofs.Storing.{store-step}
 use Rattle.model.proofs.Evicting.{evict-step}
 use Rattle.model.proofs.Committing.{commit-step}
-use Rattle.model.proofs.Homeward.{writeBack-safe, writeBack-step, recover-safe, recover-home, recover-step}
+use Rattle.model.proofs.Homeward.{writeBack-safe, writeBack-step}
 use Rattle.model.proofs.Deleting.{delete-step, begin-step}
 
 -- a world whose machine is not lost is live
@@ -71,18 +69,13 @@ store-onward m mem t w v false =
 width-positive : (n : ℕ) → isWidth n ≡ true → 0 < n
 width-positive n e = let h = leb-true 8 n (both-left (leb 8 n) (leb n 512 && eqb (n % 8) 0) e) in omega arith
 
--- the head is one store
-pub head-store : (l n : ℕ) → 0 < l → headStores l n ≡ record { at = 0; value = n } ∷ []
-unfolding headStores
-head-store l n h = rw (lt-ltb 0 l h)
-
 module _ {l : ℕ} (c : ℕ) (m : Machine) (mem : Memory) (b : Book) (ready : Ready l m mem b) where
   -- the world after a step under the supply c
   abbrev pub After : Step → Type 0
   After s = Ready l (stepped s c m mem .machine) (stepped s c m mem .memory) (noted s (stepped s c m mem .answer) b)
 
   pub begin-ready : (t : ℕ) → After (begin t)
-  unfolding planOf beginPlan putsOf stored
+  unfolding planOf beginPlan putsOf
   begin-ready t =
       guarded (begin t) c m mem b
       (row (m .lost) lost ∷ row (not (consistent m)) inconsistent ∷ unknownThread t ∷ row (isOpen m t) busy ∷ [])
@@ -98,6 +91,7 @@ module _ {l : ℕ} (c : ℕ) (m : Machine) (mem : Memory) (b : Book) (ready : Re
       let core =
       begin-step m (mem .home) (mem .working) b (world .rs) t (world .core) (let h = ltb-false 7 t (none .1 .1 .0) in omega arith) (none .1 .1 .1 .0) in
       ends c mem [] [] (withOpened (set (m .opened) t true) m) (mem .working) b (entered (begin t) b)
+      (rw (stored-none (mem .home), stored-none (mem .log))
       (record {
         rs = world .rs;
         alive = world .alive;
@@ -106,7 +100,7 @@ module _ {l : ℕ} (c : ℕ) (m : Machine) (mem : Memory) (b : Book) (ready : Re
         holds = world .holds;
         tail = world .tail;
         core = core;
-      })
+      }))
       (λ k h. absurd (not-suc-le-zero h)))
 
   pub store-ready : (t w v : ℕ) → After (store t w v)
@@ -227,7 +221,7 @@ module _ {l : ℕ} (c : ℕ) (m : Machine) (mem : Memory) (b : Book) (ready : Re
       (record { lost = refl; words = refl; slots = refl; head = refl; tail = refl }))
 
   pub writeBack-ready : (i : ℕ) → After (writeBack i)
-  unfolding planOf writeBackPlan entered stored
+  unfolding planOf writeBackPlan entered
   writeBack-ready i =
       let hs : List Store = lineWrites (mem .working) i in
       let next : Machine = withLines (changed (dirtyAs false) i (m .lines)) m in
@@ -251,7 +245,7 @@ module _ {l : ℕ} (c : ℕ) (m : Machine) (mem : Memory) (b : Book) (ready : Re
         alive = world .alive;
         width = world .width;
         slots = world .slots;
-        holds = world .holds;
+        holds = rw stored-none (world .holds);
         tail = world .tail;
         core = core;
       })
@@ -259,7 +253,7 @@ module _ {l : ℕ} (c : ℕ) (m : Machine) (mem : Memory) (b : Book) (ready : Re
       kept (m .words) (partly mem k hs [] (replicate (length (mem .working)) 0)) (b .committed) (world .rs) (m .head) (world .width)
       (length-stored (mem .home) (take k hs) ∙ world .core .homeSize)
       (length-replicate (length (mem .working)) 0 ∙ world .core .workingSize)
-      (rw take-nil (world .holds))
+      (rw (take-nil, stored-none) (world .holds))
       (writeBack-safe m (mem .home) (mem .working) b (world .rs) i (world .core) (rest .1 .0) k))))
 
   -- what is read of a log that holds the records r ∷ rs
@@ -276,7 +270,6 @@ module _ {l : ℕ} (c : ℕ) (m : Machine) (mem : Memory) (b : Book) (ready : Re
       → eqb (m .head) (m .tail) ≡ false
       → isNeeded m (readBack (m .words) (mem .log) (m .head)) (readFrom (m .tail - (m .head + 1)) (m .words) (mem .log) (m .head + 1)) ≡ false
       → Ends l (performed c mem (putsOf (slotsOf (mem .log)) (m .tail) (setHead (m .head + 1) ∷ [])) (withHead (m .head + 1) m) (mem .working)) b b
-  unfolding stored
   delete-ends [] world e some spare =
       let tail = world .tail in
       let none = ap length e in
@@ -287,10 +280,11 @@ module _ {l : ℕ} (c : ℕ) (m : Machine) (mem : Memory) (b : Book) (ready : Re
       let core : CoreOf m (mem .home) (mem .working) b (r ∷ rs) = rw e at (world .core) in
       let tail : m .tail ≡ m .head + length (r ∷ rs) = rw e at (world .tail) in
       let least = holds .least in
-      let one = ap length (head-store l (m .head + 1) (omega arith)) in
+      let one = size-of-head l (m .head + 1) (omega arith) in
       subst (λ (ps : List Put). Ends l (performed c mem ps next (mem .working)) b b)
       (sym (rw (slots-of holds) (puts-head l (m .tail) (m .head + 1))))
       (ends c mem [] (headStores l (m .head + 1)) next (mem .working) b b
+      (rw stored-none
       (record {
         rs = rs;
         alive = world .alive;
@@ -299,11 +293,11 @@ module _ {l : ℕ} (c : ℕ) (m : Machine) (mem : Memory) (b : Book) (ready : Re
         holds = deleted holds 1 (omega arith);
         tail = omega arith;
         core = delete-step m (mem .home) (mem .working) b r rs core (not-needed r rs holds tail spare);
-      })
+      }))
       (λ k h.
       let none : k ≡ 0 = omega arith in
-      rw none
-      (kept (m .words) (partly mem 0 [] (headStores l (m .head + 1)) (replicate (length (mem .working)) 0)) (b .committed) (r ∷ rs) (m .head)
+      rw (none, stored-none (mem .home), stored-none (mem .log))
+      (kept (m .words) (record { home = mem .home; working = replicate (length (mem .working)) 0; log = mem .log }) (b .committed) (r ∷ rs) (m .head)
       (world .width)
       (core .homeSize)
       (length-replicate (length (mem .working)) 0 ∙ core .workingSize)

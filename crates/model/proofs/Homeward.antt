@@ -9,8 +9,7 @@ use native.Mathlib.Decide.{ℕ-discrete, decLe}
 use native.Mathlib.Omega.{arith}
 use borrow.Author.Tests.{eq-eqb, ne-eqb, lt-ltb, le-ltb, le-leb, lt-leb}
 use lib.Dec.{eqb}
-use lib.ListN.{length, getD, set, take, drop, replicate, take-append-drop, length-replicate, getD-replicate}
-use lib.Seq.{lt-length-set, getD-set-same, getD-set-other}
+use lib.ListN.{length, getD, take, drop, replicate, take-append-drop, length-replicate, getD-replicate}
 use Rattle.log.specs.declared.Record.{Record}
 use Rattle.log.specs.Stores.{Store, stored}
 use Rattle.log.specs.Holding.{Every}
@@ -25,7 +24,7 @@ use Rattle.model.specs.Machine.{Machine, freshMachine, withLines, lineOf
 use Rattle.model.specs.Refusals.{isPending}
 use Rattle.model.specs.Recovery.{redoWrites, undoWrites, recoveryWrites}
 use Rattle.model.specs.Book.{Book}
-use Rattle.model.proofs.LastTo.{or, lastTo, or-first, last-append, stored-word}
+use Rattle.model.proofs.LastTo.{first, or, lastTo, or-first, first-none, last-append, stored-word}
 use Rattle.model.proofs.Own.{redos}
 use Rattle.model.proofs.Records.{fails-before}
 use Rattle.model.proofs.Lines.{line-changed, kept-changed, length-changed, every-changed}
@@ -46,19 +45,30 @@ lineWrites working i = map (written working) (wordsOf i)
 abbrev has : ℕ → List ℕ → Bool
 has w ws = any (λ v. eqb v w) ws
 
+-- the last store to a word, where words are written
+last-written : (working : List ℕ) (w : ℕ) (ws : List ℕ)
+    → lastTo w (map (written working) ws) ≡ cond (has w ws) (some (getD working w 0)) none
+unfolding lastTo any
+last-written working w [] = refl
+last-written working w (v ∷ ws) =
+    let x : ℕ = getD working w 0 in
+    rw (last-written working w ws)
+    (elim (ℕ-discrete v w) [
+      | yes e ↦
+          rw (eq-eqb v w e, e)
+          (elim (has w ws) as (λ (t : Bool). first (cond t (some x) none) (some x) ≡ some x) [ true ↦ refl | false ↦ refl ])
+      | no ne ↦ rw (ne-eqb v w ne) (first-none (cond (has w ws) (some x) none))
+    ])
+
 -- words that are written get their values, the others stay
 word-written : (working home : List ℕ) (w : ℕ) (ws : List ℕ) → w < length home
     → getD (stored home (map (written working) ws)) w 0 ≡ cond (has w ws) (getD working w 0) (getD home w 0)
-unfolding stored any
-word-written working home w [] h = refl
-word-written working home w (v ∷ ws) h =
-    word-written working (set home v (getD working v 0)) w ws (lt-length-set home v (getD working v 0) h)
-    ∙ elim (ℕ-discrete v w) [
-      | yes e ↦
-          rw (eq-eqb v w e, e, getD-set-same home w (getD working w 0) 0 h)
-          (elim (has w ws) as (λ (t : Bool). cond t (getD working w 0) (getD working w 0) ≡ getD working w 0) [ true ↦ refl | false ↦ refl ])
-      | no ne ↦ rw (ne-eqb v w ne, getD-set-other home v w (getD working v 0) 0 (λ e. ne (sym e)))
-    ]
+word-written working home w ws h =
+    let x : ℕ = getD working w 0 in
+    let v : ℕ = getD home w 0 in
+    stored-word w home (map (written working) ws) h
+    ∙ ap (λ (o : Option ℕ). or o v) (last-written working w ws)
+    ∙ elim (has w ws) as (λ (t : Bool). or (cond t (some x) none) v ≡ cond t x v) [ true ↦ refl | false ↦ refl ]
 
 -- a number is in a list if something is left of the list when only that number is kept
 has-kept : (w : ℕ) (ws : List ℕ) → has w ws ≡ not (isEmpty (keep (λ v. eqb v w) (keep (λ v. true) ws)))

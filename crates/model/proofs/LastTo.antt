@@ -1,15 +1,15 @@
 -- What a list of stores leaves in a word: the value of the last store to it, if there is one.
 use Prim.Native.Nat.{ℕ, _<_}
 use mathlib.Core.Path.{_≡_, refl, sym, _∙_, ap}
-use mathlib.Core.Bool.{cond}
+use mathlib.Core.Bool.{true, false, cond}
 use mathlib.Core.List.{List, [], _∷_, _++_}
 use mathlib.Core.Option.{Option, none, some, Option·getD}
 use native.Mathlib.Decide.{ℕ-discrete}
 use borrow.Author.Tests.{eq-eqb, ne-eqb}
 use lib.Dec.{eqb}
-use lib.ListN.{length, getD, set}
-use lib.Seq.{lt-length-set, getD-set-same, getD-set-other}
+use lib.ListN.{length, getD}
 use Rattle.log.specs.Stores.{Store, stored}
+use Rattle.log.proofs.Stored.{stored-none, stored-one, stored-append, length-stored}
 use Rattle.model.specs.Book.{updated, settled}
 
 -- the first of two that is there
@@ -52,22 +52,21 @@ last-append w (x ∷ xs) ys =
     ap (λ (o : Option ℕ). first o (onlyTo w x)) (last-append w xs ys) ∙ first-assoc (lastTo w ys) (lastTo w xs) (onlyTo w x)
 
 -- a word after one store
-pub set-word : (w : ℕ) (home : List ℕ) (s : Store) → w < length home
-    → getD (set home (s .at) (s .value)) w 0 ≡ or (onlyTo w s) (getD home w 0)
-set-word w home s h =
-    elim (ℕ-discrete (s .at) w) [
-      | yes e ↦ rw (eq-eqb (s .at) w e, e) (getD-set-same home w (s .value) 0 h)
-      | no ne ↦ rw (ne-eqb (s .at) w ne) (getD-set-other home (s .at) w (s .value) 0 (λ e. ne (sym e)))
-    ]
+store-word : (w : ℕ) (home : List ℕ) (s : Store) → w < length home → getD (stored home (s ∷ [])) w 0 ≡ or (onlyTo w s) (getD home w 0)
+store-word w home s h =
+    let v : ℕ = getD home w 0 in
+    stored-one home s w h
+    ∙ elim (eqb (s .at) w) as (λ t. cond t (s .value) v ≡ or (cond t (some (s .value)) none) v) [ true ↦ refl | false ↦ refl ]
 
 -- a word after a list of stores
 pub stored-word : (w : ℕ) (home : List ℕ) (ss : List Store) → w < length home
     → getD (stored home ss) w 0 ≡ or (lastTo w ss) (getD home w 0)
-unfolding stored lastTo
-stored-word w home [] h = refl
+unfolding lastTo
+stored-word w home [] h = rw stored-none
 stored-word w home (s ∷ ss) h =
-    stored-word w (set home (s .at) (s .value)) ss (lt-length-set home (s .at) (s .value) h)
-    ∙ ap (or (lastTo w ss)) (set-word w home s h)
+    ap (λ (xs : List ℕ). getD xs w 0) (stored-append home (s ∷ []) ss)
+    ∙ stored-word w (stored home (s ∷ [])) ss (rw length-stored h)
+    ∙ ap (or (lastTo w ss)) (store-word w home s h)
     ∙ sym (or-first (lastTo w ss) (onlyTo w s) (getD home w 0))
 
 -- a committed value after one store is settled

@@ -1,18 +1,17 @@
 -- Plans carried out under a supply: all their stores, or the first few and a lost machine.
-use Prim.Native.Nat.{ℕ, zero, suc, _+_, _-_, _*_, _/_, _≤_, _<_}
+use Prim.Native.Nat.{ℕ, zero, suc, _+_, _-_, _≤_, _<_}
 use mathlib.Core.Path.{_≡_, refl, sym, _∙_, ap, ap₂, subst}
-use mathlib.Core.Bool.{Bool, true, false, cond}
 use mathlib.Core.List.{List, [], _∷_, _++_, map, append-nil, map-append}
 use native.Mathlib.Nat.{zero-sub, sub-zero, suc-sub-suc}
 use native.Mathlib.Omega.{arith}
 use native.Mathlib.Decide.{decLe}
 use borrow.Author.Tests.{le-leb, lt-leb, eqb-false}
-use lib.Dec.{leb}
-use lib.ListN.{length, take, replicate, length-append, length-map, length-replicate}
+use lib.ListN.{length, take, replicate, length-append, length-map}
 use lib.Seq.{take-all, take-nil}
 use Rattle.log.specs.declared.Record.{Record}
 use Rattle.log.specs.Stores.{Store, stored}
 use Rattle.log.specs.Region.{recordStores, recordsStores, headStores}
+use Rattle.log.proofs.Appending.{records-none, records-one, records-append}
 use Rattle.model.specs.Machine.{Machine, Memory, lostMachine}
 use Rattle.model.specs.Plan.{Op, append, writeHome, setHead, Put, inHome, inLog, putsOf, homePart, logPart, Outcome, written, performed}
 use Rattle.model.specs.Book.{Book}
@@ -24,11 +23,11 @@ puts hs gs = map inHome hs ++ map inLog gs
 
 -- a plan that appends records, one that writes words home, and one that sets the head after that
 pub puts-append : (l n : ℕ) (rs : List Record) → putsOf l n (map append rs) ≡ puts [] (recordsStores l n rs)
-unfolding putsOf recordsStores
-puts-append l n [] = refl
+unfolding putsOf
+puts-append l n [] = rw records-none
 puts-append l n (r ∷ rs) =
-    ap (λ (ps : List Put). map inLog (recordStores l n r) ++ ps) (puts-append l (n + 1) rs)
-    ∙ sym (map-append inLog (recordStores l n r) (recordsStores l (n + 1) rs))
+    rw (records-append l n (r ∷ []) rs, records-one, map-append)
+    (ap (λ (ps : List Put). map inLog (recordStores l n r) ++ ps) (puts-append l (n + 1) rs))
 
 pub puts-home : (l n : ℕ) (hs : List Store) (ops : List Op)
     → putsOf l n (map writeHome hs ++ ops) ≡ map inHome hs ++ putsOf l n ops

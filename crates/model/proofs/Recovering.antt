@@ -1,39 +1,35 @@
 -- A recovery on buffers that are kept is never refused; done, it brings the committed values home.
-use Prim.Native.Nat.{ℕ, _+_, _-_, _*_, _/_, _%_, _≤_, _<_}
+use Prim.Native.Nat.{ℕ, _+_, _-_, _*_, _/_, _%_, _<_}
 use mathlib.Core.Path.{_≡_, refl, sym, _∙_, ap, subst}
-use mathlib.Core.Bool.{Bool, true, false, _&&_, false≢true}
+use mathlib.Core.Bool.{true, false, _&&_}
 use mathlib.Core.List.{List, [], _∷_, _++_, map}
 use native.Mathlib.Omega.{arith}
 use native.Mathlib.Nat.{add-zero}
-use borrow.Author.Tests.{le-ltb, lt-ltb, eq-eqb, ne-eqb, eqb-true, leb-true}
-use lib.Dec.{eqb, ltb, leb}
-use lib.ListN.{length, getD, take, replicate, length-append, length-replicate}
+use borrow.Author.Tests.{le-ltb, eq-eqb, ne-eqb, eqb-true}
+use lib.Dec.{eqb, leb}
+use lib.ListN.{length, getD, take, replicate, length-replicate}
 use lib.Seq.{drop-length}
 use Rattle.log.specs.declared.Record.{Record}
-use Rattle.log.specs.declared.Reading.{Reading}
-use Rattle.log.specs.declared.Reading.the-variants.{Good, Bad}
+use Rattle.log.specs.declared.Reading.the-variants.{Good}
 use Rattle.log.specs.Stores.{Store, stored}
-use Rattle.log.specs.Region.{numbers, slotsOf, headOf, tailOf, recordsOf, headStores}
-use Rattle.log.specs.Holding.{Holds}
-use Rattle.log.proofs.Stored.{length-stored}
-use Rattle.log.proofs.Holding.{slots-of, deleted}
+use Rattle.log.specs.Region.{numbers, headStores}
+use Rattle.log.proofs.Stored.{stored-none, length-stored}
+use Rattle.log.proofs.Holding.{slots-of, size-of-head, deleted}
 use Rattle.log.proofs.Readings.{tail-found, read-all}
 use Rattle.model.specs.Lists.{any}
 use Rattle.model.specs.Machine.{Machine, Memory, freshMachine}
 use Rattle.model.specs.Consistent.{isWidth}
-use Rattle.model.specs.Plan.{Put, Op, writeHome, setHead, putsOf, planned, Outcome, performed}
+use Rattle.model.specs.Plan.{Put, writeHome, setHead, planned, Outcome, performed}
 use Rattle.model.specs.Refusals.{unless, wrongLengths}
 use Rattle.model.specs.Steps.{isBad}
-use Rattle.model.specs.Recovery.{redoWrites, undoWrites, recoveryWrites, redoOfClosed, undoOfOpen, records, recoverPlan}
+use Rattle.model.specs.Recovery.{recoveryWrites, records, recoverPlan}
 use Rattle.model.specs.Step.{recover, planOf, stepped}
 use Rattle.model.specs.Book.{Book}
 use Rattle.model.proofs.Lists.{both-right}
-use Rattle.model.proofs.Core.{Safe}
 use Rattle.model.proofs.Worlds.{Kept, Live, Ends, kept}
-use Rattle.model.proofs.Performing.{puts, puts-home, puts-head, partly, ends, enough, done-memory}
+use Rattle.model.proofs.Performing.{puts, puts-home, puts-head, partly, ends, done-memory}
 use Rattle.model.proofs.Steps.{stepped-planned}
 use Rattle.model.proofs.Homeward.{recover-safe, recover-home, recover-step}
-use Rattle.model.proofs.EachStep.{head-store}
 
 -- good readings
 none-bad : (rs : List Record) → any isBad (map Good rs) ≡ false
@@ -101,15 +97,14 @@ module _ {l : ℕ} (c : ℕ) (m : Machine) (mem : Memory) (b : Book) (world : Ke
 
   some : (k : ℕ) → k < length writes + length (headStores l end)
       → Kept l (partly mem k writes (headStores l end) (replicate (length (mem .working)) 0)) (b .committed)
-  unfolding stored
   some k h =
       let least = world .holds .least in
-      let one = ap length (head-store l end (omega arith)) in
+      let one = size-of-head l end (omega arith) in
       let none : k - length writes ≡ 0 = omega arith in
       kept width (partly mem k writes (headStores l end) (replicate (length (mem .working)) 0)) (b .committed) (world .rs) (world .head) (world .width)
       (length-stored (mem .home) (take k writes))
       (length-replicate (length (mem .working)) 0 ∙ world .working)
-      (rw none (world .holds))
+      (rw (none, stored-none) (world .holds))
       (recover-safe width (world .rs) (mem .home) (b .committed) refl (world .safe) k)
 
   pub recover-ends : Ends l (stepped recover c m mem) b b

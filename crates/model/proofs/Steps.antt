@@ -1,28 +1,28 @@
 -- Each step keeps a world ready for recovery.
-use Prim.Native.Nat.{ℕ, zero, suc, _+_, _-_, _*_, _/_, _≤_, _<_}
-use mathlib.Core.Path.{_≡_, refl, sym, _∙_, ap, ap₂, subst}
-use mathlib.Core.Bool.{Bool, true, false, cond, _&&_, not}
+use Prim.Native.Nat.{ℕ, _+_, _*_, _/_, _≤_, _<_}
+use mathlib.Core.Path.{_≡_, refl, sym, _∙_, ap, subst}
+use mathlib.Core.Bool.{Bool, true, false, _&&_}
 use mathlib.Core.List.{List, [], _∷_, _++_, map}
 use mathlib.Core.Logic.{_⊎_, inl, inr, ⊎-elim}
 use native.Mathlib.Omega.{arith}
 use native.Mathlib.Nat.{sub-zero}
-use borrow.Author.Tests.{ltb-false, leb-false, not-false, eqb-false, ne-eqb}
-use lib.Dec.{eqb, ltb, leb}
-use lib.ListN.{length, getD, take, drop, set, replicate, length-append, length-replicate}
+use borrow.Author.Tests.{ltb-false, ne-eqb}
+use lib.Dec.{ltb}
+use lib.ListN.{length, take, replicate, length-append, length-replicate}
 use lib.Seq.{take-all, take-nil}
 use Rattle.log.specs.declared.Record.{Record}
 use Rattle.log.specs.Stores.{Store, stored}
-use Rattle.log.specs.Region.{numbers, slotsOf, headOf, recordsStores, headStores}
+use Rattle.log.specs.Region.{numbers, slotsOf, recordsStores}
 use Rattle.log.specs.Holding.{Every, Valid, Holds}
-use Rattle.log.proofs.Stored.{length-stored}
-use Rattle.log.proofs.Holding.{slots-of, every-drop, deleted}
+use Rattle.log.proofs.Stored.{stored-none}
+use Rattle.log.proofs.Holding.{slots-of}
 use Rattle.log.proofs.Appending.{size-of-records, appends}
 use Rattle.model.specs.Machine.{Machine, Memory, freeSlots}
-use Rattle.model.specs.Plan.{Put, Op, append, writeHome, setHead, putsOf, Plan, refused, planned, Outcome, performed, carriedOut}
-use Rattle.model.specs.Refusals.{Row, unless, noRoom}
+use Rattle.model.specs.Plan.{Put, Op, append, putsOf, Plan, refused, planned, Outcome, performed, carriedOut}
+use Rattle.model.specs.Refusals.{Row, unless}
 use Rattle.model.specs.Step.{Step, planOf, taken, stepped}
 use Rattle.model.specs.Book.{Book, entered, noted}
-use Rattle.model.proofs.Core.{Core, CoreOf, Safe, Appends, core-safe}
+use Rattle.model.proofs.Core.{Appends}
 use Rattle.model.proofs.Worlds.{Kept, Live, Ready, live, dark, Ends, finished, stopped, kept}
 use Rattle.model.proofs.Performing.{puts, puts-append, partly, ends}
 
@@ -148,10 +148,10 @@ module _ {l : ℕ} (m : Machine) (mem : Memory) (b : Book) (world : Live l m mem
       → ltb (freeSlots m) (length new) ≡ false → (ltb 0 (length new) && ltb numbers (m .tail + length new)) ≡ false
       → Appends m (mem .home) b (world .rs) new next working book → Onward m next (length new)
       → Ends l (performed c mem (putsOf (slotsOf (mem .log)) (m .tail) (map append new)) next working) b book
-  unfolding stored stores
+  unfolding stores
   appending c new next working book free number does onward =
       subst (λ (ps : List Put). Ends l (performed c mem ps next working) b book) (sym made)
-      (ends c mem [] (stores new valid fits below) next working b book all some)
+      (ends c mem [] (stores new valid fits below) next working b book (rw stored-none all) some)
     where
       valid : Every (Valid (m .words)) new
       valid = subst (λ (n : ℕ). Every (Valid n) new) (onward .words) (every-right (Valid (next .words)) (world .rs) new (does .core .valid))
@@ -185,7 +185,7 @@ module _ {l : ℕ} (m : Machine) (mem : Memory) (b : Book) (world : Live l m mem
           (world .rs ++ take (k / 3) new)
           (m .head)
           (world .width)
-          (rw take-nil (world .core .homeSize))
+          (rw (take-nil, stored-none) (world .core .homeSize))
           (rw length-replicate (world .core .workingSize))
           (rw sub-zero (held new valid fits below k))
-          (rw take-nil (does .safe (k / 3) (omega arith)))
+          (rw (take-nil, stored-none) (does .safe (k / 3) (omega arith)))

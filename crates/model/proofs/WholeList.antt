@@ -1,19 +1,18 @@
 -- The claim about every list of steps.
-use Prim.Native.Nat.{ℕ, zero, suc, _+_, _*_, _%_, _^_, _≤_, _<_}
+use Prim.Native.Nat.{ℕ, _+_, _%_, _^_, _≤_}
 use mathlib.Core.Path.{_≡_, refl, sym, _∙_, ap, subst}
-use mathlib.Core.Bool.{Bool, true, false, cond, _&&_, false≢true}
-use mathlib.Core.List.{List, [], _∷_, _++_}
+use mathlib.Core.Bool.{Bool, true, false, cond, _&&_}
+use mathlib.Core.List.{List, [], _∷_}
 use mathlib.Core.Logic.{_⊎_, inl, inr}
 use native.Mathlib.Omega.{arith}
 use borrow.Author.Tests.{leb-true}
 use lib.Dec.{leb, eqb}
-use lib.ListN.{length, getD, replicate, length-append}
+use lib.ListN.{length, length-append}
 use Rattle.log.specs.declared.Record.{Record}
 use Rattle.log.specs.declared.Record.the-variants.{UndoRedo, Redo, Commit}
 use Rattle.log.specs.Stores.{Store, stored}
 use Rattle.log.specs.Region.{headStores}
-use Rattle.log.specs.Holding.{Holds}
-use Rattle.log.proofs.Holding.{zeros}
+use Rattle.log.proofs.Holding.{zeros, size-of-head}
 use Rattle.model.specs.Machine.{Machine, Memory, freshMachine}
 use Rattle.model.specs.Consistent.{isWidth, consistentWith}
 use Rattle.model.specs.Plan.{Outcome}
@@ -24,11 +23,11 @@ use Rattle.model.specs.Run.{Timed, World, after, HomeCommitted, Faithful
 use Rattle.model.proofs.Lists.{both-left, both-right}
 use Rattle.model.proofs.LastTo.{lastTo}
 use Rattle.model.proofs.Core.{Safe}
-use Rattle.model.proofs.Worlds.{Kept, Live, Ready, live, dark, Ends, finished, stopped, live-kept}
+use Rattle.model.proofs.Worlds.{Kept, Ready, live, dark, Ends, finished, stopped, live-kept}
 use Rattle.model.proofs.Performing.{enough}
 use Rattle.model.proofs.Steps.{ends-ready}
 use Rattle.model.proofs.EachStep.{begin-ready, store-ready, logUndo-ready, logRedo-ready, evict-ready, writeBack-ready, commit-ready}
-use Rattle.model.proofs.EachStep.{delete-ready, head-store}
+use Rattle.model.proofs.EachStep.{delete-ready}
 use Rattle.model.proofs.Recovering.{recovered, recover-ends, recover-faithful}
 use Rattle.model.proofs.Consistency.{core-consistent}
 
@@ -164,7 +163,7 @@ enough-supply {l} c m mem b kept h =
     let few = few-writes (kept .rs) in
     let room = kept .holds .room in
     let least = kept .holds .least in
-    let one = ap length (head-store l n (omega arith)) in
+    let one = size-of-head l n (omega arith) in
     ap (λ (o : Outcome). o .answer) (recovered c m mem b kept)
     ∙ enough c mem (recoveryWrites (kept .rs)) (headStores l n) (freshMachine (length (mem .home)) l n) (stored (mem .home) (recoveryWrites (kept .rs)))
     (simp length-append (omega arith))

@@ -15,7 +15,8 @@ use Rattle.log.specs.Stores.{Store, storedUnder, shifted}
 use Rattle.log.specs.Layout.{tornBit, slotStores}
 use Rattle.log.specs.Region.{numbers, placeOf, recordStores}
 use Rattle.log.proofs.Stored.{under-none, under-part}
-use Rattle.log.proofs.Sizes.{Sized, sized, slot-within, turned, some-slots}
+use Rattle.log.proofs.Sizes.{Sized, sized, turned, some-slots}
+use Rattle.log.proofs.Numbers.{place-fits}
 use Rattle.log.proofs.region.append.Statement.{statement}
 use Rattle.log.proofs.region.append.Tie as tie
 
@@ -56,7 +57,9 @@ size c = sized _ _ (c .before .slots .ensures) (some-slots (c .before .slots .re
 
 -- the part that is lent begins within the log
 within : (c : tie.After-place) → c .place .result + 2 < length (c .before .before .before .before .before .before .args .log .now)
-within c = rw (c .place .ensures) (slot-within _ _ (c .before .before .before .before .before .before .args .number) (size (c .before .before)))
+within c =
+    let s = size (c .before .before) in
+    rw (c .place .ensures, s .whole) (place-fits _ (c .before .before .before .before .before .before .args .number) (omega arith))
 
 torn-bit-requires : tie.Need-torn-bit-requires
 torn-bit-requires c κs = let s = size c in omega arith

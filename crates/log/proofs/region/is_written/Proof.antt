@@ -9,7 +9,8 @@ use lib.Dec.{eqb, ltb, leb}
 use lib.ListN.{length, getD}
 use Rattle.log.specs.Layout.{tornIn, tornBit}
 use Rattle.log.specs.Region.{numbers, slotsOf, placeOf, isWritten}
-use Rattle.log.proofs.Sizes.{Sized, sized, slot-within, turned, some-slots}
+use Rattle.log.proofs.Sizes.{Sized, sized, turned, some-slots}
+use Rattle.log.proofs.Numbers.{place-fits}
 use Rattle.log.proofs.region.is_written.Statement.{statement}
 use Rattle.log.proofs.region.is_written.Tie as tie
 
@@ -34,7 +35,9 @@ size c = sized _ _ (c .before .slots .ensures) (some-slots (c .before .slots .re
 
 -- the header of the slot lies within the log
 within : (c : tie.After-place) → c .place .result + 2 < length (c .before .before .before .before .args .log .now)
-within c = rw (c .place .ensures) (slot-within _ _ (c .before .before .before .before .args .number) (size (c .before)))
+within c =
+    let s = size (c .before) in
+    rw (c .place .ensures, s .whole) (place-fits _ (c .before .before .before .before .args .number) (omega arith))
 
 place-requires : tie.Need-place-requires
 place-requires c κs = let s = size c in omega arith

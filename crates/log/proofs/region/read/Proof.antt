@@ -7,7 +7,8 @@ use mathlib.Core.Path.{_≡_, ap, _∙_}
 use lib.ListN.{length, take, drop}
 use Rattle.log.specs.Layout.{decodedSlot}
 use Rattle.log.specs.Region.{readBack}
-use Rattle.log.proofs.Sizes.{Sized, sized, slot-within}
+use Rattle.log.proofs.Sizes.{Sized, sized}
+use Rattle.log.proofs.Numbers.{place-fits}
 use Rattle.log.proofs.region.read.Statement.{statement}
 use Rattle.log.proofs.region.read.Tie as tie
 
@@ -24,7 +25,9 @@ size c = let some : 0 < c .before .slots .result = omega arith in sized _ _ (c .
 
 -- the part that is handed on ends within the log
 within : (c : tie.After-place) → c .place .result + 2 < length (c .before .before .before .before .args .log .now)
-within c = rw (c .place .ensures) (slot-within _ _ (c .before .before .before .before .args .number) (size (c .before)))
+within c =
+    let s = size (c .before) in
+    rw (c .place .ensures, s .whole) (place-fits _ (c .before .before .before .before .args .number) (omega arith))
 
 place-requires : tie.Need-place-requires
 place-requires c κs = let s = size c in omega arith

@@ -2,11 +2,11 @@
 use Prim.Native.Nat.{ℕ, _<_}
 use native.Mathlib.Omega.{arith}
 use mathlib.Core.Path.{_≡_}
-use mathlib.Core.List.{[], _∷_}
+use mathlib.Core.List.{[]}
 use borrow.Author.Needs.{needs}
-use borrow.Author.Tests.{lt-ltb}
 use Rattle.log.specs.Region.{headStores}
 use Rattle.log.proofs.Stored.{under-none}
+use Rattle.log.proofs.Holding.{head-store}
 use Rattle.log.proofs.region.set_head.Statement.{statement}
 use Rattle.log.proofs.region.set_head.Tie as tie
 
@@ -14,11 +14,6 @@ use Rattle.log.proofs.region.set_head.Tie as tie
 none : (l n : ℕ) → l ≡ 0 → headStores l n ≡ []
 unfolding headStores
 none l n e = rw e
-
--- else the head is stored
-one : (l n : ℕ) → (l ≡ 0 → ⊥) → headStores l n ≡ record { at = 0; value = n } ∷ []
-unfolding headStores
-one l n h = let some : 0 < l = omega arith in rw (lt-ltb 0 l some)
 
 slots-requires : tie.Need-slots-requires
 slots-requires c κs = search needs
@@ -40,9 +35,9 @@ same-length-2 c = search needs
 
 returns-2 : tie.Need-returns-2
 returns-2 c =
-    rw
-    (← c .before .before .before .before .before .slots .ensures, one _ _ (c .before .before .before .before .if1 .left))
-    (c .before .before .store .ensures)
+    let l = c .before .before .before .before .before .slots in
+    let some : 0 < l .result = omega arith in
+    rw (← l .ensures, head-store (l .result) _ some) (c .before .before .store .ensures)
 
 pub set-head-spec : {M : Type 1} → statement M
 set-head-spec =

@@ -1,5 +1,5 @@
-# make run: builds the program `scenarios` and shows its table. make test: the gate.
-.PHONY: run test
+# make run: builds the program `scenarios` and shows its table. make test: the gate. make bench: times beside the twin and other stores.
+.PHONY: run test bench
 
 run:
 	@rt check scenarios > /dev/null
@@ -7,3 +7,6 @@ run:
 
 test:
 	@.ci/run
+
+bench:
+	@bench/run

@@ -1,15 +1,9 @@
-//! A second word store beside the first: digests to compare, times to beat.
+//! The twin's program: digests, single lists and times.
 
-mod bench;
-mod book;
-mod lists;
-mod store;
-#[cfg(test)]
-mod tests;
-
-use book::Book;
-use lists::*;
 use std::collections::BTreeMap;
+use twin::bench;
+use twin::book::Book;
+use twin::lists::*;
 
 fn main() {
     let args: Vec<String> = std::env::args().skip(1).collect();

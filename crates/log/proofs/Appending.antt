@@ -1,11 +1,12 @@
 -- The stores of a record add it to the list that a region holds when all three are made; fewer leave the list as it was.
 use Prim.Native.Nat.{ℕ, zero, suc, _+_, _-_, _*_, _/_, _%_, _≤_, _<_}
 use mathlib.Core.Path.{_≡_, refl, sym, ap, _∙_}
+use mathlib.Core.Bool.{and-false}
 use mathlib.Core.List.{List, [], _∷_, _++_, append-assoc, append-nil}
 use native.Mathlib.Nat.{add-zero}
 use native.Mathlib.Decide.{decLt}
 use native.Mathlib.Omega.{arith}
-use borrow.Author.Tests.{lt-ltb}
+use borrow.Author.Tests.{lt-ltb, le-ltb}
 use lib.ListN.{length, set, take, drop, length-append, length-drop, length-set, List·getD-append}
 use lib.Seq.{take-nil, take-all, take-append-le, take-set-le, drop-set-lt, drop-set-add, getD-set-other, getD-append-seam}
 use Rattle.log.specs.declared.Record.{Record}
@@ -53,6 +54,13 @@ unfolding recordsStores
 size-of-records l n [] some below = refl
 size-of-records l n (r ∷ rs) some below =
     rw length-append (omega (arith, size-of-record l n r some (omega arith), size-of-records l (n + 1) rs some (omega arith)))
+
+-- numbers past the last record's take none
+pub records-beyond : (l n : ℕ) (rs : List Record) → numbers ≤ n → recordsStores l n rs ≡ []
+unfolding recordStores recordsStores
+records-beyond l n [] past = refl
+records-beyond l n (r ∷ rs) past =
+    rw (le-ltb n numbers past, and-false) (records-beyond l (n + 1) rs (omega arith))
 
 -- a store to a slot leaves the others
 slot-other : (l n m k v : ℕ) (log : List ℕ) → k < 3 → (m % l ≡ n % l → ⊥) → slotAt l (set log (placeOf l n + k) v) m ≡ slotAt l log m

@@ -1,5 +1,5 @@
 -- What a commit logs, what it hands back, and the state after it.
-use Prim.Native.Nat.{ℕ, _+_, _-_, _*_, _/_, _%_, _≤_, _<_}
+use Prim.Native.Nat.{ℕ, _+_, _-_, _*_, _/_, _%_, _≤_, _<_, min}
 use mathlib.Core.Path.{_≡_, refl, sym, _∙_, ap}
 use mathlib.Core.Bool.{false, cond, _&&_, not}
 use mathlib.Core.List.{List, [], _∷_, _++_, map}
@@ -7,15 +7,12 @@ use native.Mathlib.Omega.{arith}
 use native.Mathlib.Decide.{decLt}
 use borrow.Author.Tests.{lt-ltb, ltb-false}
 use lib.Dec.{ltb}
-use lib.ListN.{length, take, getD, set, replicate, length-append, length-map}
-use lib.Seq.{take-all}
+use lib.ListN.{length, getD, set, replicate, length-append, length-map}
 use Rattle.log.specs.declared.Record.{Record}
-use Rattle.log.specs.declared.Record.the-variants.{Commit}
-use Rattle.log.specs.Stores.{storedUnder}
-use Rattle.log.specs.Region.{numbers, slotsOf, recordStores, recordsStores}
+use Rattle.log.specs.Stores.{Store, storedUnder}
+use Rattle.log.specs.Region.{numbers, slotsOf, recordsStores}
 use Rattle.log.specs.Holding.{Every}
 use Rattle.log.proofs.Holding.{every-append}
-use Rattle.parts.specs.declared.Entry.{Entry}
 use Rattle.parts.specs.declared.Buffer.{Buffer}
 use Rattle.parts.specs.declared.Lines.{Lines}
 use Rattle.parts.specs.Lines.{firstLines}
@@ -24,19 +21,21 @@ use Rattle.parts.proofs.Listed.{length-listed}
 use Rattle.model.specs.Machine.{Machine, Memory, lostMachine, freeSlots}
 use Rattle.model.specs.Plan.{append, planned}
 use Rattle.model.specs.Refusals.{Row, unless, numberOf, common, unknownThread, notOpen, noRoom}
-use Rattle.model.specs.Steps.{undoRedoRecord, redoRecord, newestRedos, commitRecords, undosLogged, released, commitPlan}
+use Rattle.model.specs.Steps.{newestRedos, commitRecords, undosLogged, released, commitPlan}
 use Rattle.model.specs.Step.{commit, planOf, stepped}
 use Rattle.model.proofs.Fit.{Fit, fit}
 use Rattle.model.proofs.Outcomes.{none-apply, outcome-refused}
+use Rattle.logging.specs.Newest.{newestWords}
+use Rattle.logging.specs.Records.{commitRecordsOf}
+use Rattle.logging.proofs.Appending.{Appended}
+use Rattle.logging.proofs.Guards.{commit-of}
 use Rattle.machine.specs.declared.State.{State}
 use Rattle.machine.specs.declared.Answer.{Answer}
 use Rattle.machine.specs.View.{view, memory, shown}
-use Rattle.machine.specs.Progressed.{Progressed}
-use Rattle.machine.specs.Committing.{newestWords, redosOf, commitStores, committedBy}
+use Rattle.machine.specs.Committing.{committedBy}
 use Rattle.machine.proofs.Outcome.{width}
 use Rattle.machine.proofs.Refused.{passed, refused-first, refused-then}
-use Rattle.machine.proofs.Appending.{Appended, room, append-done, append-cut}
-use Rattle.machine.proofs.Progressing.{progressed-one, progressed-then}
+use Rattle.machine.proofs.Appending.{room, append-done, append-cut}
 
 -- the number of records that a commit logs
 pub commit-size : (m : Machine) (mem : Memory) (t : ℕ)
@@ -46,12 +45,13 @@ unfolding commitRecords newestRedos newestWords
 commit-size m mem t = simp (length-append, length-map)
 
 -- the same of a state, by what the code counts
-pub commit-count : (s : State) (mem : Memory) (t r : ℕ) → s .words % 8 ≡ 0
-    → r ≡ length (newestWords (firstLines (s .words / 8) (s .lines)) t (8 * (s .words / 8)))
+pub commit-count : (s : State) (mem : Memory) (t r : ℕ) → s .words ≤ 512 → s .words % 8 ≡ 0
+    → r ≡ length (newestWords (firstLines (min (s .words / 8) 64) (s .lines)) t (8 * min (s .words / 8) 64))
     → s .undos .len + s .redos .len + r + 1 ≡ length (commitRecords (view s) mem t)
-commit-count s mem t r round e =
+commit-count s mem t r most round e =
+    let n : min (s .words / 8) 64 ≡ s .words / 8 = omega arith in
     let w : 8 * (s .words / 8) ≡ s .words = omega arith in
-    let newest : r ≡ length (newestWords (firstLines (s .words / 8) (s .lines)) t (s .words)) = rw w at e in
+    let newest : r ≡ length (newestWords (firstLines (s .words / 8) (s .lines)) t (s .words)) = rw (n, w) at e in
     omega (
       arith,
       commit-size (view s) mem t,
@@ -114,41 +114,6 @@ commit-next s logged free none t count e freed empty =
     machine-eq _ (committedBy t count (view s)) (ap (λ (m : Machine). m .lost) f) words (ap (λ (m : Machine). m .slots) f)
     (ap (λ (m : Machine). m .head) f) refl (ap (λ (m : Machine). set (m .opened) t false) f)
     (ap (λ (n : ℕ). firstLines (n / 8) free) words ∙ freed ∙ ap (map (released t)) lines) (ap (λ (m : Machine). m .undoRedo) f) empty
-
--- all entries of a buffer are its oldest
-all-oldest : (b : Buffer) → take (b .len) (waiting b) ≡ waiting b
-all-oldest b =
-    let e : length (waiting b) ≡ b .len = length-listed (b .len) (entryAt b) in
-    take-all (b .len) (waiting b) (omega arith)
-
--- the records of its entries, appended
-whole : {c n k : ℕ} {before after : List ℕ} (f : Entry → Record) (b : Buffer)
-    → k ≡ c - length (recordsStores (slotsOf before) n (map f (take (b .len) (waiting b))))
-    → after ≡ storedUnder c before (recordsStores (slotsOf before) n (map f (take (b .len) (waiting b))))
-    → Progressed c before n (map f (waiting b)) after (n + b .len) k
-whole {c} {n} f b left log =
-    let e : length (map f (waiting b)) ≡ b .len = length-map (waiting b) f ∙ length-listed (b .len) (entryAt b) in
-    record { number = omega arith; left = rw (all-oldest b) at left; log = rw (all-oldest b) at log }
-
--- all records of a commit, appended one part after the other
-pub commit-appended : (s : State) (working : List ℕ) (t c : ℕ) (log log₁ log₂ log₃ log₄ : List ℕ) (k₁ k₂ n₃ k₃ k₄ : ℕ) → s .words % 8 ≡ 0
-    → (k₁ ≡ c - length (recordsStores (slotsOf log) (s .tail) (map undoRedoRecord (take (s .undos .len) (waiting (s .undos)))))) ×
-    (log₁ ≡ storedUnder c log (recordsStores (slotsOf log) (s .tail) (map undoRedoRecord (take (s .undos .len) (waiting (s .undos))))))
-    → (k₂ ≡ k₁ - length (recordsStores (slotsOf log₁) (s .tail + s .undos .len) (map redoRecord (take (s .redos .len) (waiting (s .redos)))))) ×
-    (log₂
-    ≡ storedUnder k₁ log₁ (recordsStores (slotsOf log₁) (s .tail + s .undos .len) (map redoRecord (take (s .redos .len) (waiting (s .redos))))))
-    → Progressed k₂ log₂ (s .tail + s .undos .len + s .redos .len)
-    (redosOf working t (newestWords (firstLines (s .words / 8) (s .lines)) t (8 * (s .words / 8)))) log₃ n₃ k₃
-    → (k₄ ≡ k₃ - length (recordStores (slotsOf log₃) n₃ (Commit t))) × (log₄ ≡ storedUnder k₃ log₃ (recordStores (slotsOf log₃) n₃ (Commit t)))
-    → (k₄ ≡ c - length (commitStores s working log t)) × (log₄ ≡ storedUnder c log (commitStores s working log t))
-unfolding commitRecords newestRedos newestWords
-commit-appended s working t c log log₁ log₂ log₃ log₄ k₁ k₂ n₃ k₃ k₄ round first second third fourth =
-    let e : 8 * (s .words / 8) ≡ s .words = omega arith in
-    let one = whole undoRedoRecord (s .undos) (first .0) (first .1) in
-    let two = whole redoRecord (s .redos) (second .0) (second .1) in
-    let four : Progressed k₃ log₃ n₃ (Commit t ∷ []) log₄ (n₃ + 1) k₄ = progressed-one (Commit t) (fourth .0) (fourth .1) in
-    let all = progressed-then _ _ one (progressed-then _ _ two (progressed-then _ _ (rw e at third) four)) in
-    (all .left, all .log)
 
 -- the sizes of a state that no common row refuses
 pub record Sizes (s : State) : Type 0 where
@@ -221,7 +186,6 @@ module _ (s : State) (t c : ℕ) (home working log : List ℕ) where
     pub none : Every (λ r. r .applies ≡ false) rows
     pub thread : t < 8
     pub below : s .tail + length records ≤ numbers
-    pub buffers : s .tail + s .undos .len + s .redos .len ≤ numbers
 
   pub ready : (first : ℕ) → first ≡ numberOf (common (view s) mem) → first ≡ 0 → (n : ℕ) → n ≡ numberOf rest → n ≡ 0 → Ready
   ready first by zero n e none =
@@ -229,41 +193,44 @@ module _ (s : State) (t c : ℕ) (home working log : List ℕ) where
       let later : Every (λ r. r .applies ≡ false) rest =
       none-apply rest (omega arith, (omega arith, (omega arith, (omega arith, tt)))) (sym e ∙ none) in
       let fits = fit (view s) mem early in
-      let below = room (view s) records (fits .clauses .tail) (later .1 .1 .1 .0) in
       record {
         fits = fits;
         none = every-append (λ (r : Row). r .applies ≡ false) (common (view s) mem) rest early later;
         thread = omega (arith, ltb-false 7 t (later .0));
-        below = below;
-        buffers =
-            omega (
-              arith,
-              commit-size (view s) mem t,
-              length-listed (s .undos .len) (entryAt (s .undos)),
-              length-listed (s .redos .len) (entryAt (s .redos)),
-            );
+        below = room (view s) records (fits .clauses .tail) (later .1 .1 .1 .0);
       }
 
-  -- the records are appended
-  made : (after : List ℕ) (left : ℕ) → (left ≡ c - length (commitStores s working log t)) × (after ≡ storedUnder c log (commitStores s working log t))
+  -- the records that were appended are those of the model
+  same-records : Ready → commitRecordsOf (s .undos) (s .redos) (s .lines) working t ≡ records
+  unfolding commitRecords newestRedos newestWords
+  same-records is-ready =
+      let size = sizes s mem (is-ready .fits) in
+      let e : length working ≡ s .words = is-ready .fits .working in
+      commit-of (s .undos) (s .redos) (s .lines) working t
+      (record { fewUndos = omega arith; fewRedos = omega arith; most = omega arith; round = rw e (size .round) })
+      ∙ rw e
+
+  -- their stores
+  abbrev pub commitStores : List Store
+  commitStores = recordsStores (slotsOf log) (s .tail) (commitRecordsOf (s .undos) (s .redos) (s .lines) working t)
+
+  made : Ready → (after : List ℕ) (left : ℕ) → (left ≡ c - length commitStores) × (after ≡ storedUnder c log commitStores)
       → Appended c log (s .tail) records after left
-  unfolding commitRecords newestRedos
-  made after left e = record { left = e .0; log = e .1 }
+  made is-ready after left e = let f = rw (same-records is-ready) at e in record { left = f .0; log = f .1 }
 
   -- done, and cut
   module _ (is-ready : Ready) (count : ℕ) (same : count ≡ length records) where
     pub commit-done : (r : State) (after : List ℕ) (left : ℕ) → 3 * count ≤ c
-        → (left ≡ c - length (commitStores s working log t)) × (after ≡ storedUnder c log (commitStores s working log t))
-        → view r ≡ committedBy t count (view s)
+        → (left ≡ c - length commitStores) × (after ≡ storedUnder c log commitStores) → view r ≡ committedBy t count (view s)
         → shown (record { answer = 0; left = left; state = r }) home working after ≡ stepped (commit t) c (view s) mem
     commit-done r after left h a e =
         append-done (commit t) c (view s) mem rows records next working plan (is-ready .none) (is-ready .fits) (is-ready .below)
-        (record { answer = 0; left = left; state = r }) after (rw same at h) (made after left a) refl (rw same at e)
+        (record { answer = 0; left = left; state = r }) after (rw same at h) (made is-ready after left a) refl (rw same at e)
 
     pub commit-cut : (r : Answer) (cleared after : List ℕ) (left : ℕ) → c < 3 * count
-        → (left ≡ c - length (commitStores s working log t)) × (after ≡ storedUnder c log (commitStores s working log t))
+        → (left ≡ c - length commitStores) × (after ≡ storedUnder c log commitStores)
         → (r .answer ≡ 255) × ((r .left ≡ 0) × (view (r .state) ≡ lostMachine)) → cleared ≡ replicate (length working) 0
         → shown r home cleared after ≡ stepped (commit t) c (view s) mem
     commit-cut r cleared after left h a e f =
         append-cut (commit t) c (view s) mem rows records next working plan (is-ready .none) (is-ready .fits) (is-ready .below)
-        r cleared after left (rw same at h) (made after left a) e f
+        r cleared after left (rw same at h) (made is-ready after left a) e f

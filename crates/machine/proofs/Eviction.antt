@@ -1,98 +1,59 @@
 -- A line evicted: the entries that its ULog words add, how many must be logged before, and the state after it.
 use Prim.Native.Nat.{ℕ, _+_, _-_, _*_, _/_, _≤_, _<_}
 use mathlib.Core.Path.{_≡_, refl, sym, ap, ap₂, subst, _∙_}
-use mathlib.Core.Bool.{Bool, true, false, cond, _&&_}
-use mathlib.Core.List.{List, [], _∷_, _++_, map, map-map, map-append, append-nil, append-assoc}
+use mathlib.Core.Bool.{false, cond, _&&_}
+use mathlib.Core.List.{List, [], _++_, map, map-map}
 use native.Mathlib.Omega.{arith}
-use borrow.Author.Tests.{lt-ltb}
-use lib.Dec.{eqb, ltb}
-use lib.ListN.{length, getD, take, drop, replicate, length-append, length-map, length-drop}
+use lib.Dec.{ltb}
+use lib.ListN.{length, getD, take, drop, replicate, length-map, length-drop}
 use Rattle.log.specs.declared.Record.{Record}
-use Rattle.log.specs.Stores.{storedUnder}
-use Rattle.log.specs.Region.{numbers, slotsOf, recordsStores}
+use Rattle.log.specs.Region.{numbers}
 use Rattle.log.specs.Holding.{Every}
 use Rattle.parts.specs.declared.Entry.{Entry}
 use Rattle.parts.specs.declared.Buffer.{Buffer}
 use Rattle.parts.specs.declared.Line.{Line}
 use Rattle.parts.specs.declared.Lines.{Lines}
 use Rattle.parts.specs.Lines.{lineAt, firstLines}
-use Rattle.parts.specs.States.{stateAt, ULog}
-use Rattle.parts.specs.Waiting.{entryAt, waiting, added}
+use Rattle.parts.specs.States.{ULog}
+use Rattle.parts.specs.Waiting.{entryAt, waiting}
 use Rattle.parts.proofs.Listed.{length-listed}
+use Rattle.parts.proofs.Oldest.{length-oldest}
 use Rattle.model.specs.Lists.{keep, upTo}
 use Rattle.model.specs.Machine.{Machine, Memory, lostMachine, freeSlots, withLines, withRedo, lineOf, statesAs, changed}
 use Rattle.model.specs.Plan.{append, planned}
 use Rattle.model.specs.Refusals.{Row, unless, numberOf, noRoom}
 use Rattle.model.specs.Steps.{evicted, lacking, redoRecord, redoRecords, redosLogged, evictPlan}
 use Rattle.model.specs.Step.{evict, planOf, stepped}
+use Rattle.model.proofs.LinesInUse.{line-in-use}
 use Rattle.model.proofs.Outcomes.{number-then, outcome-refused}
+use Rattle.line_walks.specs.Walks.{isULog, ulogEntry, ulogEntries, addedAll}
+use Rattle.line_walks.proofs.ULogEntries.{added-all, entries-there}
+use Rattle.logging.proofs.LineWords.{keep-below}
+use Rattle.logging.proofs.Appending.{Appended}
 use Rattle.machine.specs.declared.State.{State}
 use Rattle.machine.specs.declared.Answer.{Answer}
 use Rattle.machine.specs.View.{view, shown}
-use Rattle.machine.proofs.WordLines.{line-in-use}
-use Rattle.machine.proofs.Oldest.{length-oldest}
-use Rattle.machine.proofs.LineWords.{keep-next, count-next, count-more, keep-below}
-use Rattle.machine.proofs.Appending.{Appended, room, append-done, append-cut}
+use Rattle.machine.proofs.Appending.{room, append-done, append-cut}
 use Rattle.machine.proofs.LineRows.{lineRows, none-refuse, LineFit, line-fit}
-
--- word j of a line is ULog
-abbrev isULog : Line → ℕ → Bool
-isULog line j = eqb (stateAt (line .states) j) ULog
-
--- the entry that it adds then, `first` being the line's first word
-abbrev pub newEntry : Line → List ℕ → ℕ → ℕ → Entry
-newEntry line working first j =
-    record { thread = line .holder; word = first + j; undo = 0; redo = getD working (first + j) 0 }
-
--- one word more: its entry is added, if it is ULog
-pub add-next : (line : Line) (working : List ℕ) (first : ℕ) (b : Buffer) (es : List Entry) (j s : ℕ) → s ≡ stateAt (line .states) j
-    → es ≡ waiting b ++ map (newEntry line working first) (keep (isULog line) (upTo j))
-    → b .len + length (keep (isULog line) (upTo 8)) ≤ 32 → j < 8
-    → cond (eqb s ULog) (added (newEntry line working first j) es) es
-    ≡ waiting b ++ map (newEntry line working first) (keep (isULog line) (upTo (j + 1)))
-add-next line working first b es j s e before fits below =
-    go (eqb s ULog) (ap (λ (n : ℕ). eqb n ULog) (sym e))
-  where
-    new : ℕ → Entry
-    new = newEntry line working first
-
-    kept : ℕ → List ℕ
-    kept n = keep (isULog line) (upTo n)
-
-    go : (t : Bool) → isULog line j ≡ t → cond t (added (new j) es) es ≡ waiting b ++ map new (kept (j + 1))
-    go true f =
-        let n : j + 1 + (8 - (j + 1)) ≡ 8 = omega arith in
-        let most : length (kept (j + 1)) ≤ length (kept 8) = rw n at (count-more (isULog line) (j + 1) (8 - (j + 1))) in
-        let one = count-next (isULog line) j true f in
-        let size : length es ≡ length (waiting b) + length (map new (kept j)) = ap length before ∙ length-append (waiting b) (map new (kept j)) in
-        let few = length-map (kept j) new in
-        let len = length-listed (b .len) (entryAt b) in
-        rw (lt-ltb (length es) 32 (omega arith))
-        (ap (λ (xs : List Entry). xs ++ (new j ∷ [])) before
-        ∙ append-assoc (waiting b) (map new (kept j)) (new j ∷ [])
-        ∙ ap (λ (xs : List Entry). waiting b ++ xs) (sym (ap (map new) (keep-next (isULog line) j true f) ∙ map-append new (kept j) (j ∷ []))))
-    go false f =
-        before
-        ∙ ap (λ (xs : List ℕ). waiting b ++ map new xs) (sym (keep-next (isULog line) j false f ∙ append-nil (kept j)))
 
 -- the line at i, in use
 module _ (s : State) (i : ℕ) (line : Line) (read : line ≡ lineAt (s .lines) i) (below : i < s .words / 8) where
   -- the entries that it adds
-  evicted-by : (mem : Memory) → evicted (view s) mem i ≡ map (newEntry line (mem .working) (8 * i)) (keep (isULog line) (upTo 8))
+  evicted-by : (mem : Memory) → evicted (view s) mem i ≡ map (ulogEntry line (mem .working) (8 * i)) (keep (isULog line) (upTo 8))
   unfolding evicted
   evicted-by mem =
       ap (map (λ w. record { thread = lineOf (view s .lines) i .holder; word = w; undo = 0; redo = getD (mem .working) w 0 }))
       (keep-below (s .words / 8) (s .lines) i below ULog)
       ∙ map-map (λ w. record { thread = lineOf (view s .lines) i .holder; word = w; undo = 0; redo = getD (mem .working) w 0 })
       (λ j. 8 * i + j) (keep (isULog (lineAt (s .lines) i)) (upTo 8))
-      ∙ ap (λ (l : Line). map (newEntry l (mem .working) (8 * i)) (keep (isULog (lineAt (s .lines) i)) (upTo 8)))
+      ∙ ap (λ (l : Line). map (ulogEntry l (mem .working) (8 * i)) (keep (isULog (lineAt (s .lines) i)) (upTo 8)))
       (sym (line-in-use (s .words / 8) (s .lines) i below))
-      ∙ ap (λ (l : Line). map (newEntry l (mem .working) (8 * i)) (keep (isULog l) (upTo 8))) (sym read)
+      ∙ ap (λ (l : Line). map (ulogEntry l (mem .working) (8 * i)) (keep (isULog l) (upTo 8))) (sym read)
 
   -- how many they are
   count-evicted : (mem : Memory) → length (evicted (view s) mem i) ≡ length (keep (isULog line) (upTo 8))
   count-evicted mem =
-      ap length (evicted-by mem) ∙ length-map (keep (isULog line) (upTo 8)) (newEntry line (mem .working) (8 * i))
+      ap length (evicted-by mem) ∙ length-map (keep (isULog line) (upTo 8)) (ulogEntry line (mem .working) (8 * i))
 
   -- how many entries must be logged
   pub lacking-by : (mem : Memory) (count : ℕ) → count ≡ s .redos .len + length (keep (isULog line) (upTo 8)) - 32 → count ≡ lacking (view s) mem i
@@ -102,7 +63,7 @@ module _ (s : State) (i : ℕ) (line : Line) (read : line ≡ lineAt (s .lines) 
       omega arith
 
   -- there is a place for each new entry after that
-  pub places : (t : State) (mem : Memory) (count : ℕ) → view t ≡ redosLogged count (view s) → count ≡ lacking (view s) mem i → count ≤ s .redos .len
+  places : (t : State) (mem : Memory) (count : ℕ) → view t ≡ redosLogged count (view s) → count ≡ lacking (view s) mem i → count ≤ s .redos .len
       → t .redos .len + length (keep (isULog line) (upTo 8)) ≤ 32
   places t mem count e f h =
       let a = length-listed (s .redos .len) (entryAt (s .redos)) in
@@ -112,17 +73,34 @@ module _ (s : State) (i : ℕ) (line : Line) (read : line ≡ lineAt (s .lines) 
       ap (λ (m : Machine). length (m .redo)) e ∙ length-drop count (waiting (s .redos)) in
       omega arith
 
+  -- so each is put last
+  entries-added : (t : State) (mem : Memory) (count : ℕ) (grown : Buffer) → s .words ≤ 512 → length (mem .working) ≡ s .words
+      → view t ≡ redosLogged count (view s) → count ≡ lacking (view s) mem i → count ≤ s .redos .len
+      → waiting grown ≡ addedAll (ulogEntries line (mem .working) (8 * i)) (waiting (t .redos))
+      → waiting grown ≡ waiting (t .redos) ++ evicted (view s) mem i
+  entries-added t mem count grown narrow sizes e f h more =
+      let new : List Entry = map (ulogEntry line (mem .working) (8 * i)) (keep (isULog line) (upTo 8)) in
+      let room = places t mem count e f h in
+      let a = length-listed (t .redos .len) (entryAt (t .redos)) in
+      let b = length-map (keep (isULog line) (upTo 8)) (ulogEntry line (mem .working) (8 * i)) in
+      more
+      ∙ ap (λ (xs : List Entry). addedAll xs (waiting (t .redos))) (entries-there line (mem .working) (8 * i) (omega arith) (omega arith))
+      ∙ added-all new (waiting (t .redos)) (omega arith)
+      ∙ ap (λ (xs : List Entry). waiting (t .redos) ++ xs) (sym (evicted-by mem))
+
   -- the state after the eviction: t is the state with the entries logged
-  pub set-down : (t : State) (mem : Memory) (count : ℕ) (grown : Buffer) (clean : Lines) → s .words ≤ 512 → view t ≡ redosLogged count (view s)
-      → waiting grown ≡ waiting (t .redos) ++ map (newEntry line (mem .working) (8 * i)) (keep (isULog line) (upTo 8))
+  pub set-down : (t : State) (mem : Memory) (count : ℕ) (grown : Buffer) (clean : Lines) → s .words ≤ 512 → length (mem .working) ≡ s .words
+      → view t ≡ redosLogged count (view s) → count ≡ lacking (view s) mem i → count ≤ s .redos .len
+      → waiting grown ≡ addedAll (ulogEntries line (mem .working) (8 * i)) (waiting (t .redos))
       → ((n : ℕ) → n ≤ 64 → firstLines n clean ≡ changed (statesAs 0) i (firstLines n (s .lines)))
       → withLines (firstLines (t .words / 8) clean) (withRedo (waiting grown) (view t))
       ≡ withLines (changed (statesAs 0) i (view s .lines)) (withRedo (drop count (view s .redo) ++ evicted (view s) mem i) (redosLogged count (view s)))
-  set-down t mem count grown clean narrow e more changes =
+  set-down t mem count grown clean narrow sizes e f h more changes =
       ap (λ (m : Machine). withLines (firstLines (m .words / 8) clean) (withRedo (waiting grown) m)) e
       ∙ ap₂ (λ (ls : List Line) (es : List Entry). withLines ls (withRedo es (redosLogged count (view s))))
       (changes (s .words / 8) (omega arith))
-      (more ∙ ap₂ (λ (xs ys : List Entry). xs ++ ys) (ap (λ (m : Machine). m .redo) e) (sym (evicted-by mem)))
+      (entries-added t mem count grown narrow sizes e f h more
+      ∙ ap (λ (m : Machine). m .redo ++ evicted (view s) mem i) e)
 
 -- a buffer's length is the number of the entries that wait in it
 pub few-wait : (b : Buffer) → length (waiting b) ≤ 32 → b .len ≤ 32
@@ -175,16 +153,9 @@ module _ (i c : ℕ) (s : State) (mem : Memory) where
     room-for = room (view s) records (evict-fit .fits .clauses .tail) (none .1 .1 .1 .1 .1 .1 .0)
 
     module _ (count : ℕ) (lacks : count ≡ lacking (view s) mem i) (within : count ≤ s .redos .len) where
-      pub evict-room : s .tail + count ≤ numbers
-      evict-room = rw (size count lacks within) at room-for
-
-      module _ (log : List ℕ) (rest : ℕ)
-          (left : rest ≡ c - length (recordsStores (slotsOf (mem .log)) (s .tail) (map redoRecord (take count (waiting (s .redos))))))
-          (stores : log ≡ storedUnder c (mem .log) (recordsStores (slotsOf (mem .log)) (s .tail) (map redoRecord (take count (waiting (s .redos)))))) where
+      module _ (log : List ℕ) (rest : ℕ) (made : Appended c (mem .log) (s .tail) (redoRecords count (view s)) log rest) where
         appended : Appended c (mem .log) (s .tail) records log rest
-        appended =
-            let a : Appended c (mem .log) (s .tail) (redoRecords count (view s)) log rest = record { left = left; log = stores } in
-            subst (λ (k : ℕ). Appended c (mem .log) (s .tail) (redoRecords k (view s)) log rest) lacks a
+        appended = subst (λ (k : ℕ). Appended c (mem .log) (s .tail) (redoRecords k (view s)) log rest) lacks made
 
         -- done: the supply was enough
         pub evict-done : (t : State) → 3 * count ≤ c → view t ≡ next count

@@ -1,26 +1,14 @@
 -- Laws that the proofs of the functions share.
-pub mod WordLines
-pub mod Oldest
 pub mod Appending
 pub mod Refused
 pub mod LoggingOldest
 pub mod DeleteStep
 pub mod Outcome
-pub mod ReadOn
 pub mod LineWords
 pub mod LineRows
 pub mod WritingBack
 pub mod Eviction
 pub mod Filing
 pub mod StoreRows
-pub mod Newest
-pub mod Progressing
 pub mod Commits
-pub mod Replaying
 pub mod RecoverStep
-pub mod StepsMade
-pub mod Claim
-pub mod Apart
-pub mod Linear
-pub mod Settled
-pub mod Walking

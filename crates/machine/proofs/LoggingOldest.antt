@@ -21,11 +21,12 @@ use Rattle.model.specs.Refusals.{Row, row, unless, numberOf, nothing, noRoom, c
 use Rattle.model.specs.Step.{Step, planOf, taken, stepped}
 use Rattle.model.proofs.Outcomes.{none-apply, outcome-refused}
 use Rattle.model.proofs.Fit.{Clauses, Fit}
+use Rattle.logging.proofs.Appending.{Appended}
 use Rattle.machine.specs.declared.Answer.{Answer}
 use Rattle.machine.specs.View.{view, shown}
 use Rattle.machine.proofs.Outcome.{width}
 use Rattle.machine.proofs.Refused.{fit-first}
-use Rattle.machine.proofs.Appending.{Appended, room, append-done, append-cut}
+use Rattle.machine.proofs.Appending.{room, append-done, append-cut}
 
 -- its own rows, with its record, or none
 abbrev pub ownRows : Machine → List Record → List Row

@@ -29,6 +29,9 @@ use Rattle.model.specs.Step.{recover, planOf, stepped}
 use Rattle.model.proofs.Records.{both-fail}
 use Rattle.model.proofs.Performing.{puts, puts-home, puts-head, partly}
 use Rattle.model.proofs.Outcomes.{none-apply, number-first, number-then, outcome-refused, outcome-done, outcome-cut}
+use Rattle.recovery.specs.declared.Replayed.{Replayed}
+use Rattle.recovery.specs.Replaying.{replayStores, replayed}
+use Rattle.recovery.proofs.TwoPasses.{made-none}
 use Rattle.machine.specs.View.{view}
 use Rattle.machine.specs.Recovering.{unreadableRows}
 use Rattle.machine.proofs.Outcome.{outcome-eq, Width, width}
@@ -140,7 +143,7 @@ module _ (mem : Memory) where
     fits-unread = readable mem (unread-none .0)
 
     -- a record read is bad
-    pub refused-damaged : true ≡ any isBad (recordsOf (length (mem .home)) (mem .log)) → 14 ≡ numberOf recoverRows
+    refused-damaged : true ≡ any isBad (recordsOf (length (mem .home)) (mem .log)) → 14 ≡ numberOf recoverRows
     unfolding numberOf
     refused-damaged e =
         sym (number-then (unreadableRows mem) (row (any isBad (recordsOf (length (mem .home)) (mem .log))) damaged ∷ []) unread-none ∙ rw (← e))
@@ -152,54 +155,81 @@ module _ (mem : Memory) where
   module _ (c : ℕ) (o : Outcome) where
     -- refused: all is as it was, and the state is lost
     pub recover-refused : (n : ℕ) → n ≡ numberOf recoverRows → (n ≡ 0 → ⊥) → o .answer ≡ n → o .left ≡ c → o .machine ≡ lostMachine
-        → o .memory ≡ mem → o ≡ stepped recover c lostMachine mem
-    recover-refused n e some a l s same =
-        outcome-eq o (record { answer = n; left = c; machine = lostMachine; memory = mem })
-        a l s (ap (λ (x : Memory). x .home) same) (ap (λ (x : Memory). x .working) same) (ap (λ (x : Memory). x .log) same)
+        → o .memory .home ≡ mem .home → o .memory .working ≡ mem .working → o .memory .log ≡ mem .log → o ≡ stepped recover c lostMachine mem
+    recover-refused n e some a l s h w g =
+        outcome-eq o (record { answer = n; left = c; machine = lostMachine; memory = mem }) a l s h w g
         ∙ sym (outcome-refused recover c lostMachine mem recoverRows ops fresh (stored (mem .home) homeStores) (plan lostMachine) n (sym e) some refl)
 
-    module _ (zero : 0 ≡ numberOf (unreadableRows mem)) (good : false ≡ any isBad (recordsOf (length (mem .home)) (mem .log)))
-        (left end : ℕ) (less : left ≡ c - length homeStores) (found : end ≡ tailOf (mem .log))
-        (home : o .memory .home ≡ storedUnder c (mem .home) homeStores)
-        (log : o .memory .log ≡ storedUnder left (mem .log) (headStores (slotsOf (mem .log)) end)) where
-      one : length lastStore ≡ 1
-      unfolding headStores
-      one = let r = fits-unread zero in rw (lt-ltb 0 (slotsOf (mem .log)) (r .some))
+    -- The log is read, and replayed.
+    module _ (zero : 0 ≡ numberOf (unreadableRows mem)) (r : Replayed) (out : r ≡ replayed (length (mem .home)) c (mem .log))
+        (home : o .memory .home ≡ storedUnder c (mem .home) (replayStores (length (mem .home)) (mem .log))) where
+      bad : r .bad ≡ any isBad (recordsOf (length (mem .home)) (mem .log))
+      bad = ap (λ (x : Replayed). x .bad) out
 
-      log-same : o .memory .log ≡ stored (mem .log) (take (c - length homeStores) lastStore)
-      log-same = log ∙ ap₂ (λ (n k : ℕ). storedUnder n (mem .log) (headStores (slotsOf (mem .log)) k)) less found
+      tail : r .tail ≡ tailOf (mem .log)
+      tail = ap (λ (x : Replayed). x .tail) out
 
-      -- cut: not all stores are made
-      pub recover-cut : left ≡ 0 → o .answer ≡ 255 → o .left ≡ 0 → o .machine ≡ lostMachine
-          → o .memory .working ≡ replicate (length (mem .working)) 0 → o ≡ stepped recover c lostMachine mem
-      recover-cut none a l s w =
-          let e = one in
-          outcome-eq o
-          (record { answer = 255; left = 0; machine = lostMachine; memory = partly mem c homeStores lastStore (replicate (length (mem .working)) 0) })
-          a l s home w log-same
-          ∙ sym (outcome-cut recover c lostMachine mem recoverRows ops fresh (stored (mem .home) homeStores) (plan lostMachine) homeStores lastStore
-          (allowed zero good) (made 0) (omega arith))
+      -- damaged: nothing is stored
+      pub recover-damaged : r .bad ≡ true → o .answer ≡ 14 → o .left ≡ c → o .machine ≡ lostMachine → o .memory .working ≡ mem .working
+          → o .memory .log ≡ mem .log → o ≡ stepped recover c lostMachine mem
+      recover-damaged e a l s w g =
+          let none = made-none c (mem .home) (replayStores (length (mem .home)) (mem .log)) (rw (← bad, e)) in
+          recover-refused 14 (refused-damaged zero (sym e ∙ bad)) (λ z. omega arith) a l s (home ∙ none .1) w g
 
-      -- done: working becomes home, and the state is fresh
-      pub recover-done : (slots : ℕ) → slots ≡ slotsOf (mem .log) → (left ≡ 0 → ⊥) → o .answer ≡ 0
-          → o .left ≡ left - length (headStores (slotsOf (mem .log)) end) → o .machine ≡ freshMachine (length (mem .home)) slots end
-          → o .memory .working ≡ o .memory .home → o ≡ stepped recover c lostMachine mem
-      unfolding fresh
-      recover-done slots size some a l s w =
-          let e = one in
-          let head : length (headStores (slotsOf (mem .log)) end) ≡ length lastStore = ap (λ (k : ℕ). length (headStores (slotsOf (mem .log)) k)) found in
-          let rest : left - length (headStores (slotsOf (mem .log)) end) ≡ c - (length homeStores + length lastStore) = omega arith in
-          let all : storedUnder c (mem .home) homeStores ≡ stored (mem .home) homeStores = ap (stored (mem .home)) (take-all c homeStores (omega arith)) in
-          outcome-eq o
-          (record {
-            answer = 0;
-            left = c - (length homeStores + length lastStore);
-            machine = fresh;
-            memory = partly mem c homeStores lastStore (stored (mem .home) homeStores);
-          })
-          a (l ∙ rest) (s ∙ ap₂ (freshMachine (length (mem .home))) size found) home (w ∙ home ∙ all) log-same
-          ∙ sym (outcome-done recover c lostMachine mem recoverRows ops fresh (stored (mem .home) homeStores) (plan lostMachine) homeStores lastStore
-          (allowed zero good) (made 0) (omega arith))
+      module _ (good : r .bad ≡ false) (log : o .memory .log ≡ storedUnder (r .left) (mem .log) (headStores (slotsOf (mem .log)) (r .tail))) where
+        none-bad : Every (λ r. r .applies ≡ false) recoverRows
+        none-bad = allowed zero (sym good ∙ bad)
+
+        all-stores : replayStores (length (mem .home)) (mem .log) ≡ homeStores
+        all-stores = rw (← bad, good)
+
+        less : r .left ≡ c - length homeStores
+        less = ap (λ (x : Replayed). x .left) out ∙ ap (λ (ss : List Store). c - length ss) all-stores
+
+        home-same : o .memory .home ≡ storedUnder c (mem .home) homeStores
+        home-same = home ∙ ap (storedUnder c (mem .home)) all-stores
+
+        log-same : o .memory .log ≡ stored (mem .log) (take (c - length homeStores) lastStore)
+        log-same = log ∙ ap₂ (λ (n k : ℕ). storedUnder n (mem .log) (headStores (slotsOf (mem .log)) k)) less tail
+
+        one : length lastStore ≡ 1
+        unfolding headStores
+        one = let r = fits-unread zero in rw (lt-ltb 0 (slotsOf (mem .log)) (r .some))
+
+        -- cut: not all stores are made
+        pub recover-cut : r .left ≡ 0 → o .answer ≡ 255 → o .left ≡ 0 → o .machine ≡ lostMachine
+            → o .memory .working ≡ replicate (length (mem .working)) 0 → o ≡ stepped recover c lostMachine mem
+        recover-cut none a l s w =
+            let e = one in
+            let f = less in
+            outcome-eq o
+            (record { answer = 255; left = 0; machine = lostMachine; memory = partly mem c homeStores lastStore (replicate (length (mem .working)) 0) })
+            a l s home-same w log-same
+            ∙ sym (outcome-cut recover c lostMachine mem recoverRows ops fresh (stored (mem .home) homeStores) (plan lostMachine) homeStores lastStore
+            none-bad (made 0) (omega arith))
+
+        -- done: working becomes home, and the state is fresh
+        pub recover-done : (slots : ℕ) → slots ≡ slotsOf (mem .log) → (r .left ≡ 0 → ⊥) → o .answer ≡ 0
+            → o .left ≡ r .left - length (headStores (slotsOf (mem .log)) (r .tail)) → o .machine ≡ freshMachine (length (mem .home)) slots (r .tail)
+            → o .memory .working ≡ o .memory .home → o ≡ stepped recover c lostMachine mem
+        unfolding fresh
+        recover-done slots size some a l s w =
+            let e = one in
+            let f = less in
+            let head : length (headStores (slotsOf (mem .log)) (r .tail)) ≡ length lastStore =
+            ap (λ (k : ℕ). length (headStores (slotsOf (mem .log)) k)) tail in
+            let rest : r .left - length (headStores (slotsOf (mem .log)) (r .tail)) ≡ c - (length homeStores + length lastStore) = omega arith in
+            let all : storedUnder c (mem .home) homeStores ≡ stored (mem .home) homeStores = ap (stored (mem .home)) (take-all c homeStores (omega arith)) in
+            outcome-eq o
+            (record {
+              answer = 0;
+              left = c - (length homeStores + length lastStore);
+              machine = fresh;
+              memory = partly mem c homeStores lastStore (stored (mem .home) homeStores);
+            })
+            a (l ∙ rest) (s ∙ ap₂ (freshMachine (length (mem .home))) size tail) home-same (w ∙ home-same ∙ all) log-same
+            ∙ sym (outcome-done recover c lostMachine mem recoverRows ops fresh (stored (mem .home) homeStores) (plan lostMachine) homeStores lastStore
+            none-bad (made 0) (omega arith))
 
 -- a plan under rows, carried out after a record of one number or another, if its stores are the same
 carried-any : (c : ℕ) (m : Machine) (mem : Memory) (n k : ℕ) (ops : List Op) (next : Machine) (working : List ℕ)

@@ -1,17 +1,16 @@
 -- The rows that refuse a store, and what is known of one that none of them refuses.
-use Prim.Native.Nat.{ℕ, _+_, _-_, _*_, _≤_, _<_}
+use Prim.Native.Nat.{ℕ, _+_, _*_, _≤_, _<_}
 use mathlib.Core.Path.{_≡_, refl, sym, _∙_}
 use mathlib.Core.Bool.{Bool, false, cond, _&&_, not}
 use mathlib.Core.List.{List, [], _∷_, _++_, map}
 use native.Mathlib.Omega.{arith}
 use borrow.Author.Tests.{ltb-false, leb-false}
 use lib.Dec.{eqb, ltb, leb}
-use lib.ListN.{length, getD, take, set, replicate}
+use lib.ListN.{length, getD, set, replicate}
 use Rattle.log.specs.declared.Record.{Record}
-use Rattle.log.specs.Stores.{storedUnder}
-use Rattle.log.specs.Region.{numbers, slotsOf, recordsStores}
+use Rattle.log.specs.Region.{numbers}
 use Rattle.log.specs.Holding.{Every}
-use Rattle.parts.specs.Waiting.{waiting}
+use Rattle.parts.proofs.Oldest.{length-oldest}
 use Rattle.model.specs.Machine.{Machine, Memory, lostMachine, freeSlots, isOpen}
 use Rattle.model.specs.Plan.{append, planned}
 use Rattle.model.specs.Refusals.{Row, row, held, unless, numberOf, common, unknownThread, unknownWord, notOpen, noRoom}
@@ -19,10 +18,10 @@ use Rattle.model.specs.Step.{store, planOf, stepped}
 use Rattle.model.specs.Steps.{undoRecords, undoRedoRecord, storeLogs, storeNext, heldByAnother, storePlan}
 use Rattle.model.proofs.Outcomes.{none-apply, number-first, number-then, outcome-refused}
 use Rattle.model.proofs.Fit.{Fit, fit}
+use Rattle.logging.proofs.Appending.{Appended}
 use Rattle.machine.specs.declared.State.{State}
 use Rattle.machine.specs.declared.Answer.{Answer}
 use Rattle.machine.specs.View.{view, shown}
-use Rattle.machine.proofs.Oldest.{length-oldest}
 use Rattle.machine.proofs.Refused.{refused-then}
 use Rattle.machine.proofs.Outcome.{Width, width}
 use Rattle.machine.proofs.Appending.{room, append-done, append-cut}
@@ -141,8 +140,7 @@ module _ (s : State) (mem : Memory) (c t w v : ℕ) where
       )
 
   module _ (a : Allowed) (k : ℕ) (count : k ≡ storeLogs (view s) w same) (r : Answer) (log : List ℕ) (rest : ℕ)
-      (left : rest ≡ c - length (recordsStores (slotsOf (mem .log)) (s .tail) (map undoRedoRecord (take k (waiting (s .undos))))))
-      (appended : log ≡ storedUnder c (mem .log) (recordsStores (slotsOf (mem .log)) (s .tail) (map undoRedoRecord (take k (waiting (s .undos)))))) where
+      (made : Appended c (mem .log) (s .tail) (undoRecords k (view s)) log rest) where
     -- the supply was enough
     pub store-done : 3 * k ≤ c → r .answer ≡ 0 → r .left ≡ rest → view (r .state) ≡ storeNext (view s) mem t w v same
         → shown r (mem .home) (set (mem .working) w v) log ≡ stepped (store t w v) c (view s) mem
@@ -151,7 +149,7 @@ module _ (s : State) (mem : Memory) (c t w v : ℕ) where
         let below = a .below in
         append-done (store t w v) c (view s) mem (storeRows (view s) mem t w v) records (storeNext (view s) mem t w v same)
         (set (mem .working) w v) store-plan (a .none) (a .known .fits) (omega arith) r log (omega arith)
-        (record { left = kept ∙ rw count at left; log = rw count at appended }) answer state
+        (rw (count, ← kept) at made) answer state
 
     -- it was not
     pub store-cut : (working : List ℕ) → c < 3 * k → (r .answer ≡ 255) × ((r .left ≡ 0) × (view (r .state) ≡ lostMachine))
@@ -161,4 +159,4 @@ module _ (s : State) (mem : Memory) (c t w v : ℕ) where
         let below = a .below in
         append-cut (store t w v) c (view s) mem (storeRows (view s) mem t w v) records (storeNext (view s) mem t w v same)
         (set (mem .working) w v) store-plan (a .none) (a .known .fits) (omega arith) r working log rest (omega arith)
-        (record { left = rw count at left; log = rw count at appended }) answer cleared
+        (rw count at made) answer cleared

@@ -6,6 +6,7 @@ use mathlib.Core.List.{List, [], map}
 use native.Mathlib.Omega.{arith}
 use lib.ListN.{length, replicate, getD, length-map}
 use Rattle.log.specs.Stores.{Store, storedUnder}
+use Rattle.log.proofs.Stored.{under-none}
 use Rattle.log.specs.Region.{slotsOf}
 use Rattle.log.specs.Holding.{Every}
 use Rattle.parts.specs.declared.Line.{Line}
@@ -19,12 +20,13 @@ use Rattle.model.specs.Steps.{lineWrites, writeBackPlan}
 use Rattle.model.specs.Step.{writeBack, planOf, stepped}
 use Rattle.model.proofs.Performing.{puts-homes, partly}
 use Rattle.model.proofs.Outcomes.{outcome-refused, outcome-done, outcome-cut}
+use Rattle.line_walks.specs.Walks.{lineStores}
+use Rattle.line_walks.proofs.LineStores.{stores-there}
 use Rattle.machine.specs.declared.State.{State}
 use Rattle.machine.specs.declared.Answer.{Answer}
 use Rattle.machine.specs.View.{view, shown}
 use Rattle.machine.proofs.Outcome.{outcome-eq}
-use Rattle.machine.proofs.LineWords.{stores-none}
-use Rattle.machine.proofs.LineRows.{lineRows, none-refuse, LineFit, line-fit}
+use Rattle.machine.proofs.LineRows.{lineRows, none-refuse, LineFit, line-fit, line-there}
 
 -- the state with other lines
 abbrev pub linesReplaced : State → Lines → State
@@ -71,9 +73,16 @@ module _ (i c : ℕ) (s : State) (mem : Memory) where
     pub write-fit : LineFit (view s) mem i
     write-fit = line-fit (view s) mem i [] none
 
-    module _ (home : List ℕ) (stores : home ≡ storedUnder c (mem .home) writes) where
+    -- the line is there
+    there : lineStores (mem .working) i ≡ writes
+    there = stores-there (mem .working) i (line-there write-fit)
+
+    module _ (home : List ℕ) (stores : home ≡ storedUnder c (mem .home) (lineStores (mem .working) i)) where
+      made : home ≡ storedUnder c (mem .home) writes
+      made = stores ∙ ap (storedUnder c (mem .home)) there
+
       -- done: the supply was enough
-      pub write-done : (left : ℕ) (clean : Lines) → 8 ≤ c → left ≡ c - 8
+      pub write-done : (left : ℕ) (clean : Lines) → 8 ≤ c → left ≡ c - length (lineStores (mem .working) i)
           → ((k : ℕ) → k ≤ 64 → firstLines k clean ≡ changed (dirtyAs false) i (firstLines k (s .lines)))
           → shown (record { answer = 0; left = left; state = linesReplaced s clean }) home (mem .working) (mem .log) ≡ stepped (writeBack i) c (view s) mem
       write-done left clean h l changes =
@@ -81,8 +90,9 @@ module _ (i c : ℕ) (s : State) (mem : Memory) where
           let narrow = write-fit .narrow in
           outcome-eq (shown (record { answer = 0; left = left; state = linesReplaced s clean }) home (mem .working) (mem .log))
           (record { answer = 0; left = c - (length writes + 0); machine = next; memory = partly mem c writes [] (mem .working) })
-          refl (omega arith) (ap (λ (ls : List Line). withLines ls (view s)) (changes (s .words / 8) (omega arith))) stores refl
-          (stores-none (c - length writes) (mem .log))
+          refl (l ∙ ap (λ (ss : List Store). c - length ss) there ∙ omega arith)
+          (ap (λ (ls : List Line). withLines ls (view s)) (changes (s .words / 8) (omega arith))) made refl
+          (under-none (c - length writes) (mem .log) [] refl .1)
           ∙ sym (outcome-done (writeBack i) c (view s) mem rows (map writeHome writes) next (mem .working) plan writes [] none
           (puts-homes (slotsOf (mem .log)) (s .tail) writes) (omega arith))
 
@@ -93,6 +103,6 @@ module _ (i c : ℕ) (s : State) (mem : Memory) where
           let size = eight in
           outcome-eq (shown r home after (mem .log))
           (record { answer = 255; left = 0; machine = lostMachine; memory = partly mem c writes [] (replicate (length (mem .working)) 0) })
-          (answer .0) (answer .1 .0) (answer .1 .1) stores cleared (stores-none (c - length writes) (mem .log))
+          (answer .0) (answer .1 .0) (answer .1 .1) made cleared (under-none (c - length writes) (mem .log) [] refl .1)
           ∙ sym (outcome-cut (writeBack i) c (view s) mem rows (map writeHome writes) next (mem .working) plan writes [] none
           (puts-homes (slotsOf (mem .log)) (s .tail) writes) (omega arith))

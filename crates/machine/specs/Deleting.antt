@@ -3,17 +3,10 @@ use Prim.Native.Nat.{ℕ, _+_, _-_}
 use mathlib.Core.List.{List, [], _∷_}
 use lib.Dec.{eqb}
 use Rattle.log.specs.declared.Reading.{Reading}
-use Rattle.log.specs.declared.Reading.the-variants.{Good, Bad}
-use Rattle.log.specs.Holding.{Valid}
 use Rattle.log.specs.Region.{readBack, readFrom}
 use Rattle.model.specs.Machine.{Machine}
 use Rattle.model.specs.Refusals.{Row, row, nothing, damaged, needed}
 use Rattle.model.specs.Steps.{isBad, isNeeded}
-
--- a record read back that is not bad has a thread and a word of the machine
-abbrev pub ValidIf : ℕ → Reading → Type 0
-ValidIf words (Good r) = Valid words r
-ValidIf words Bad = Unit {0}
 
 -- the oldest record, and those after it
 abbrev pub oldest : Machine → List ℕ → Reading

@@ -11,7 +11,8 @@ ghost use Rattle.model.specs.Refusals.{numberOf, common as commonRows};
 ghost use Rattle.model.specs.Steps.{isBad, isCommitOf, isNeeded};
 ghost use Rattle.model.specs.Step.{deleteOldest, stepped};
 ghost use Rattle.machine.specs.View.{view, memory, shown};
-ghost use Rattle.machine.specs.Deleting.{ValidIf, later, deleteRows};
+ghost use Rattle.recovery.specs.Recovering.{ValidIf};
+ghost use Rattle.machine.specs.Deleting.{later, deleteRows};
 use crate::Answer;
 use crate::DAMAGED;
 use crate::DONE;
@@ -25,6 +26,7 @@ use crate::words::dirty_of;
 use log::Reading;
 use log::Record;
 use parts::Lines;
+use recovery::has_commit;
 
 pub fn is_bad(reading: Reading) -> bool
     ensures { λ r. ⌜ r ≡ isBad reading ⌝ }
@@ -33,43 +35,6 @@ pub fn is_bad(reading: Reading) -> bool
         Reading::Good(_) => false,
         Reading::Bad => true,
     }
-}
-
-// A commit of the thread; a bad record is none.
-pub fn is_commit_of(reading: Reading, thread: u8) -> bool
-    ensures { λ r. ⌜ r ≡ isCommitOf thread reading ⌝ }
-{
-    match reading {
-        Reading::Good(entry) => match entry {
-            Record::UndoRedo {
-                thread: _,
-                word: _,
-                undo: _,
-                redo: _,
-            } => false,
-            Record::Redo {
-                thread: _,
-                word: _,
-                redo: _,
-            } => false,
-            Record::Commit { thread: of } => of == thread,
-        },
-        Reading::Bad => false,
-    }
-}
-
-// Whether the thread has a commit among the records from one number up to another.
-pub fn has_commit(log: &[u64], from: u64, to: u64, words: u16, thread: u8) -> bool
-    ensures { λ r. ⌜ r ≡ any (isCommitOf thread) (readFrom (to - from) words (now (log .entry)) from) ⌝ }
-{
-    let mut number = from;
-    while number < to {
-        if is_commit_of(log::read(log, number, words), thread) {
-            return true;
-        }
-        number += 1;
-    }
-    false
 }
 
 // Whether a record of the thread for the word is needed, `from` to `to` being the records after it.

@@ -1,13 +1,10 @@
 // "Set down a line": eviction. Its ULog words add redo entries, for which the oldest are logged where places lack; all its words become Clean.
 ghost use mathlib.Core.Path.{_≡_};
-ghost use mathlib.Core.Bool.{cond};
-ghost use mathlib.Core.List.{[], _∷_, _++_, map};
-ghost use Prim.Native.Nat.{ℕ, _+_, _-_, _*_, _/_, _≤_, _<_};
+ghost use mathlib.Core.List.{[], _∷_, _++_};
+ghost use Prim.Native.Nat.{_+_, _-_, _/_, _≤_, _<_};
 ghost use lib.Dec.{eqb};
-ghost use lib.ListN.{length, getD, drop};
-ghost use Rattle.parts.specs.Lines.{firstLines};
+ghost use lib.ListN.{length, drop};
 ghost use Rattle.parts.specs.States.{stateAt, ULog};
-ghost use Rattle.parts.specs.Waiting.{waiting, added};
 ghost use Rattle.model.specs.Lists.{keep, upTo};
 ghost use Rattle.model.specs.Machine.{statesAs, changed, withLines, withRedo};
 ghost use Rattle.model.specs.Refusals.{numberOf, row, common as commonRows, unknownLine, isPending, pending, noRoom};
@@ -17,31 +14,12 @@ ghost use Rattle.machine.specs.View.{view, memory, shown};
 use crate::Answer;
 use crate::DONE;
 use crate::State;
-use crate::logging::append_redos;
 use crate::refusals::no_room;
 use crate::ways_out::cut;
 use crate::words::redos_logged;
 use crate::writing_back::line_refusal;
-use parts::Buffer;
-use parts::Entry;
-use parts::Line;
-use parts::Lines;
-
-// How many words of a line are ULog, by the line's states.
-pub fn count_ulog(states: u16) -> usize
-    ensures { λ r. ⌜ r ≤ 8 ⌝ }
-    ensures { λ r. ⌜ r ≡ length (keep (λ j. eqb (stateAt states j) ULog) (upTo 8)) ⌝ }
-{
-    let mut count = 0;
-    let mut j = 0;
-    while j < 8 {
-        if parts::state_at(states, j) == 3 {
-            count += 1;
-        }
-        j += 1;
-    }
-    count
-}
+use logging::append_oldest;
+use logging::count_ulog;
 
 // How many of `len` redo entries have to be logged for those of a line to find places.
 fn lacking(len: usize, states: u16) -> usize
@@ -67,56 +45,7 @@ fn evict_refusal(state: State, home: &[u64], working: &[u64], log: &[u64], line:
     let redos = state.redos;
     let found = lines.line(line as usize);
     let count = lacking(redos.len, found.states);
-    no_room(state, count as u64, 0)
-}
-
-// An entry put last, if the test says so.
-fn add_if(applies: bool, buffer: Buffer, entry: Entry) -> Buffer
-    ensures { λ (r : Buffer). ⌜ waiting r ≡ cond applies (added entry (waiting buffer)) (waiting buffer) ⌝ }
-{
-    if applies { buffer.add(entry) } else { buffer }
-}
-
-// A buffer with a redo entry added for each ULog word of a line, `first` being the line's first word.
-fn add_ulog(buffer: Buffer, line: Line, working: &[u64], first: usize) -> Buffer
-    requires { ⌜ (first + 8 ≤ length (now working)) × (length (now working) ≤ 512) ⌝ }
-    requires { ⌜ buffer .len + length (keep (λ j. eqb (stateAt (line .states) j) ULog) (upTo 8)) ≤ 32 ⌝ }
-    ensures { λ (r : Buffer). ⌜ waiting r ≡ waiting buffer ++
-        map (λ j. record { thread = line .holder; word = first + j; undo = 0; redo = getD (now (working .entry)) (first + j) 0 })
-        (keep (λ j. eqb (stateAt (line .states) j) ULog) (upTo 8)) ⌝ }
-{
-    let mut grown = buffer;
-    let mut j = 0;
-    while j < 8 {
-        let at = first + j;
-        grown = add_if(
-            parts::state_at(line.states, j as u64) == 3,
-            grown,
-            Entry {
-                thread: line.holder,
-                word: at as u16,
-                undo: 0,
-                redo: working[at],
-            },
-        );
-        j += 1;
-    }
-    grown
-}
-
-// The lines with the words of one of them all Clean.
-fn cleaned(lines: Lines, line: usize) -> Lines
-    ensures { λ (r : Lines). ⌜ ((n : ℕ) → n ≤ 64 → firstLines n r ≡ changed (statesAs 0) line (firstLines n lines)) ⌝ }
-{
-    let old = lines.line(line);
-    lines.put(
-        line,
-        Line {
-            holder: old.holder,
-            dirty: old.dirty,
-            states: 0,
-        },
-    )
+    no_room(state.slots, state.head, state.tail, count as u64, 0)
 }
 
 // The state after an eviction for which `count` redo entries were logged.
@@ -132,8 +61,8 @@ fn set_down(state: State, working: &[u64], line: usize, count: usize) -> State
     let mut next = redos_logged(state, count);
     let rest = next.redos;
     let found = lines.line(line);
-    let grown = add_ulog(rest, found, working, 8 * line);
-    let clean = cleaned(lines, line);
+    let grown = line_walks::add_ulog(rest, found, working, 8 * line);
+    let clean = line_walks::clean(lines, line);
     next.redos = grown;
     next.lines = clean;
     next
@@ -164,7 +93,7 @@ impl State {
         let redos = self.redos;
         let found = lines.line(at);
         let count = lacking(redos.len, found.states);
-        let left = append_redos(log, self.tail, redos, count, supply);
+        let left = append_oldest(log, self.tail, redos, count, false, supply);
         if supply < 3 * count as u64 {
             return cut(working);
         }

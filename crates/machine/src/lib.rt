@@ -8,19 +8,14 @@ mod committing;
 mod deleting;
 mod evicting;
 mod log_oldest;
-mod logging;
 mod recovering;
 mod refusals;
-mod running;
 mod sizes;
 mod soundness;
-mod stepping;
 mod storing;
 mod ways_out;
 mod words;
 mod writing_back;
-
-pub use running::run;
 
 // The state. `lost` is document 01's "dark". `lines` and the buffers may have places that are not in use.
 pub struct State {
@@ -40,25 +35,6 @@ pub struct Answer {
     pub answer: u64,
     pub left: u64,
     pub state: State,
-}
-
-// What a run of a list of steps hands back: 0, or 1 where nothing was run, and the state after the last step.
-pub struct Ran {
-    pub answer: u64,
-    pub state: State,
-}
-
-// One of the nine steps.
-pub enum Step {
-    Begin { thread: u64 },
-    Store { thread: u64, word: u64, value: u64 },
-    LogUndo,
-    LogRedo,
-    Evict { line: u64 },
-    WriteBack { line: u64 },
-    Commit { thread: u64 },
-    DeleteOldest,
-    Recover,
 }
 
 // "0 (done)" and "255 (cut)"

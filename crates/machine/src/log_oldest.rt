@@ -12,13 +12,12 @@ use crate::Answer;
 use crate::DONE;
 use crate::NOTHING;
 use crate::State;
-use crate::logging::append_redos;
-use crate::logging::append_undos;
 use crate::refusals::common;
 use crate::refusals::no_room;
 use crate::ways_out::cut;
 use crate::words::redos_logged;
 use crate::words::undos_logged;
+use logging::append_oldest;
 
 // The number under which the oldest entry of a buffer of `len` entries is not logged, or 0; `records` is its record, or none.
 fn refusal(state: State, len: usize, home: &[u64], working: &[u64], log: &[u64]) -> u64
@@ -33,7 +32,7 @@ fn refusal(state: State, len: usize, home: &[u64], working: &[u64], log: &[u64])
     if len == 0 {
         return NOTHING;
     }
-    no_room(state, 1, 0)
+    no_room(state.slots, state.head, state.tail, 1, 0)
 }
 
 impl State {
@@ -56,7 +55,7 @@ impl State {
                 state: self,
             };
         }
-        let left = append_undos(log, self.tail, undos, 1, supply);
+        let left = append_oldest(log, self.tail, undos, 1, true, supply);
         if supply < 3 {
             return cut(working);
         }
@@ -87,7 +86,7 @@ impl State {
                 state: self,
             };
         }
-        let left = append_redos(log, self.tail, redos, 1, supply);
+        let left = append_oldest(log, self.tail, redos, 1, false, supply);
         if supply < 3 {
             return cut(working);
         }

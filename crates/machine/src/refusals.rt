@@ -1,10 +1,9 @@
 // The table of refusals: rows in rising order, and those that several steps share.
 ghost use mathlib.Core.Path.{_≡_};
 ghost use mathlib.Core.Bool.{cond, _&&_};
-ghost use Prim.Native.Nat.{_+_, _≤_};
+ghost use Prim.Native.Nat.{_+_, _-_, _≤_};
 ghost use lib.Dec.{ltb};
 ghost use Rattle.log.specs.Region.{numbers};
-ghost use Rattle.model.specs.Machine.{freeSlots};
 ghost use Rattle.model.specs.Refusals.{numberOf, common as commonRows};
 ghost use Rattle.machine.specs.View.{view, memory};
 use crate::EXHAUSTED;
@@ -29,23 +28,23 @@ pub fn common(state: State, home: &[u64], working: &[u64], log: &[u64]) -> u64
 {
     let sound = is_consistent(state) & (log::head(log) == state.head);
     refuse(
-        wrong_size(state, home, working, log),
+        wrong_size(state.lost, state.words, state.slots, home, working, log),
         SIZE,
         refuse(state.lost, LOST, refuse(!sound, INCONSISTENT, 0)),
     )
 }
 
-// The rows of a step that logs `count` records, before the rest.
-pub fn no_room(state: State, count: u64, rest: u64) -> u64
-    requires { ⌜ (state .head ≤ state .tail) × ((state .tail ≤ state .head + state .slots) × ((state .tail ≤ numbers) × (count ≤ 2048))) ⌝ }
-    ensures { λ r. ⌜ r ≡ cond (ltb (freeSlots (view state)) count) 10 (cond (ltb 0 count && ltb numbers (state .tail + count)) 11 rest) ⌝ }
+// The rows of a step that logs `count` records, before the rest; head and tail are those of a log of so many slots.
+pub fn no_room(slots: u16, head: u64, tail: u64, count: u64, rest: u64) -> u64
+    requires { ⌜ (head ≤ tail) × ((tail ≤ head + slots) × ((tail ≤ numbers) × (count ≤ 2048))) ⌝ }
+    ensures { λ r. ⌜ r ≡ cond (ltb (slots - (tail - head)) count) 10 (cond (ltb 0 count && ltb numbers (tail + count)) 11 rest) ⌝ }
 {
-    let free = state.slots as u64 - (state.tail - state.head);
+    let free = slots as u64 - (tail - head);
     refuse(
         free < count,
         FULL,
         refuse(
-            (0 < count) & (0x1_0000_0000_0000 < state.tail + count),
+            (0 < count) & (0x1_0000_0000_0000 < tail + count),
             EXHAUSTED,
             rest,
         ),

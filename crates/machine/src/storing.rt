@@ -19,15 +19,14 @@ use crate::IDLE;
 use crate::PLACE;
 use crate::State;
 use crate::THREAD;
-use crate::logging::append_undos;
 use crate::refusals::common;
 use crate::refusals::no_room;
 use crate::refusals::refuse;
 use crate::ways_out::cut;
 use crate::words::holder_of;
-use crate::words::mark;
 use crate::words::state_of;
 use crate::words::undos_logged;
+use logging::append_oldest;
 use parts::Entry;
 use parts::Line;
 use parts::Lines;
@@ -93,7 +92,7 @@ pub fn filed(state: State, kind: u64, entry: Entry) -> State
         CLEAN => {
             let kept = redos.discard(entry.word);
             let waiting = undos.add(entry);
-            let marked = mark(lines, entry.word, DIRTY);
+            let marked = line_walks::mark(lines, entry.word, DIRTY);
             next.redos = kept;
             next.undos = waiting;
             next.lines = marked;
@@ -103,7 +102,7 @@ pub fn filed(state: State, kind: u64, entry: Entry) -> State
             next.undos = amended;
         }
         UR_LOG => {
-            let marked = mark(lines, entry.word, U_LOG);
+            let marked = line_walks::mark(lines, entry.word, U_LOG);
             next.lines = marked;
         }
         _ => {}
@@ -156,7 +155,11 @@ pub fn late_refusal(state: State, thread: u64, word: u64, same: bool) -> u64
     refuse(
         !state.opened[t],
         IDLE,
-        refuse(taken, HELD, no_room(state, count, 0)),
+        refuse(
+            taken,
+            HELD,
+            no_room(state.slots, state.head, state.tail, count, 0),
+        ),
     )
 }
 
@@ -218,7 +221,7 @@ impl State {
             redo: value,
         };
         let count = logs_first(self, entry.word, value == entry.undo);
-        let left = append_undos(log, self.tail, self.undos, count, supply);
+        let left = append_oldest(log, self.tail, self.undos, count, true, supply);
         if supply < 3 * count as u64 {
             return cut(working);
         }

@@ -9,24 +9,26 @@ use crate::State;
 use parts::Buffer;
 use parts::Lines;
 
-// "dark: one fixed value, its other numbers 0"
-pub fn lost_state() -> State
-    ensures { λ (r : State). ⌜ view r ≡ lostMachine ⌝ }
-{
-    State {
-        lost: true,
-        words: 0,
-        slots: 0,
-        head: 0,
-        tail: 0,
-        opened: [false; 8],
-        lines: Lines {
-            holders: [0; 64],
-            dirty: [false; 64],
-            states: [0; 64],
-        },
-        undos: Buffer::empty(),
-        redos: Buffer::empty(),
+impl State {
+    // "dark: one fixed value, its other numbers 0"
+    pub fn lost() -> State
+        ensures { λ (r : State). ⌜ view r ≡ lostMachine ⌝ }
+    {
+        State {
+            lost: true,
+            words: 0,
+            slots: 0,
+            head: 0,
+            tail: 0,
+            opened: [false; 8],
+            lines: Lines {
+                holders: [0; 64],
+                dirty: [false; 64],
+                states: [0; 64],
+            },
+            undos: Buffer::empty(),
+            redos: Buffer::empty(),
+        }
     }
 }
 
@@ -50,6 +52,6 @@ pub fn cut(working: &mut [u64]) -> Answer
     Answer {
         answer: CUT,
         left: 0,
-        state: lost_state(),
+        state: State::lost(),
     }
 }

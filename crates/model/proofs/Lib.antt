@@ -5,7 +5,9 @@ pub mod LastTo
 pub mod Own
 pub mod Records
 pub mod Lines
+pub mod LinesInUse
 pub mod Entries
+pub mod FirstNumbers
 pub mod Core
 pub mod Words
 pub mod Logging

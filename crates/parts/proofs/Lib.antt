@@ -3,5 +3,6 @@ pub mod Listed
 pub mod States
 pub mod FirstLines
 pub mod Waiting
+pub mod Oldest
 pub mod Places
 pub mod Closed

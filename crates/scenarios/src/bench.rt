@@ -3,7 +3,7 @@ use crate::lists::least;
 use crate::lists::same;
 use crate::lists::within;
 use machine::State;
-use machine::Step;
+use runner::Step;
 
 // The room for steps, and for slots that are shown.
 const STEPS: usize = 32;
@@ -36,18 +36,9 @@ pub struct Bench {
     pub shows: usize,
 }
 
-// No state has been handed back yet: a refused recovery gives the lost one.
-fn lost() -> State {
-    let mut home = [0u64; 8];
-    let mut working = [0u64; 8];
-    let mut log = [0u64; 24];
-    let refused = State::recover(&mut home, &mut working, &mut log, 0);
-    refused.state
-}
-
 // W = 8, L = 8, home 0, and a fresh log.
 pub fn fresh() -> Bench {
-    let state = lost();
+    let state = State::lost();
     Bench {
         state,
         home: [0; 64],
@@ -105,8 +96,8 @@ impl Bench {
         let h = within(self.lent[0], &home);
         let w = within(self.lent[1], &working);
         let l = within(self.lent[2], &log);
-        let r = state.step(
-            step,
+        let r = step.apply(
+            state,
             &mut home[..h],
             &mut working[..w],
             &mut log[..l],

@@ -1,5 +1,5 @@
 -- `commit` meets its contract: refused by a common row or by one of its own, cut, or done.
-use mathlib.Core.Path.{_≡_, sym}
+use mathlib.Core.Path.{_≡_}
 use native.Mathlib.Omega.{arith}
 use borrow.Author.Needs.{needs}
 use lib.ListN.{length}
@@ -83,14 +83,11 @@ is-ready c =
     (first .if1 .left) (n .result) (n .ensures (commitRecords (view (a .self)) mem (a .thread)) (counted (c .before .before)))
     (c .if2 .left)
 
-cast-append-records : tie.Need-cast-append-records
-cast-append-records c = let z = is-ready (c .before .before) in omega (arith, z .thread)
+cast-append-commit : tie.Need-cast-append-commit
+cast-append-commit c = let z = is-ready (c .before .before) in omega (arith, z .thread)
 
-append-records-requires : tie.Need-append-records-requires
-append-records-requires c κs =
-    let y = size (c .before .before .before .before .before) in
-    let z = is-ready (c .before .before) in
-    ((sym (z .fits .working), (y .words, y .round)), (omega arith, (omega arith, z .buffers)))
+append-commit-requires : tie.Need-append-commit-requires
+append-commit-requires c κs = search needs
 
 mul-if3 : tie.Need-mul-if3
 mul-if3 c = search needs
@@ -110,7 +107,7 @@ same-length-9 c = search needs
 returns-3 : tie.Need-returns-3
 returns-3 c =
     let cleared = c .before .before .cut in
-    let made = c .before .before .before .before .before .before .before .append-records in
+    let made = c .before .before .before .before .before .before .before .append-commit in
     let passed = c .before .before .before .before .before .before .before .before .before .before in
     let a = passed .before .before .before .before .before .before .before .before .before .before .before .args in
     commit-cut (a .self) (a .thread) (a .supply) (a .home .now) (a .working .now) (a .log .now) (is-ready passed)
@@ -137,7 +134,7 @@ same-length-12 c = search needs
 
 returns-4 : tie.Need-returns-4
 returns-4 c =
-    let made = c .before .before .before .before .append-records in
+    let made = c .before .before .before .before .append-commit in
     let passed = c .before .before .before .before .before .before .before in
     let a = passed .before .before .before .before .before .before .before .before .before .before .before .args in
     commit-done (a .self) (a .thread) (a .supply) (a .home .now) (a .working .now) (a .log .now) (is-ready passed)
@@ -159,8 +156,8 @@ commit-spec =
     same-length-5
     same-length-6
     returns-2
-    cast-append-records
-    append-records-requires
+    cast-append-commit
+    append-commit-requires
     mul-if3
     cut-requires
     same-length-7

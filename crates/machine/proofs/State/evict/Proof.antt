@@ -1,12 +1,14 @@
 -- `State::evict` meets its contract: refused, cut, or done.
 use Prim.Native.Nat.{ℕ, _≤_}
 use mathlib.Core.Path.{_≡_}
+use mathlib.Core.Bool.{false}
 use mathlib.Core.List.{List, []}
 use native.Mathlib.Omega.{arith}
 use Rattle.model.specs.Steps.{evicted, lacking}
+use Rattle.logging.proofs.Guards.{oldest-appended}
 use Rattle.machine.specs.View.{view, memory}
 use Rattle.machine.proofs.LineRows.{LineFit}
-use Rattle.machine.proofs.Eviction.{few-wait, lacking-by, evict-refused, evict-fit, evict-room, evict-cut, evict-done}
+use Rattle.machine.proofs.Eviction.{few-wait, lacking-by, evict-refused, evict-fit, evict-cut, evict-done}
 use borrow.Author.Needs.{needs}
 use Rattle.machine.proofs.State.evict.Statement.{statement}
 use Rattle.machine.proofs.State.evict.Tie as tie
@@ -57,18 +59,8 @@ line-requires c κs = search needs
 lacking-requires : tie.Need-lacking-requires
 lacking-requires c κs = few (c .before .before .before)
 
-append-redos-requires : tie.Need-append-redos-requires
-append-redos-requires c κs =
-    let counted = c .before in
-    let began = counted .before .before .before .before in
-    let number = began .before .evict-refusal in
-    let a = began .before .before .before .before .before .before .before .before .args in
-    let mem = memory (a .home .now) (a .working .now) (a .log .now) in
-    let within = counted .lacking .ensures .0 in
-    let room =
-    evict-room (a .line) (a .supply) (a .self) mem (number .result) (number .ensures) (began .if1 .left)
-    (counted .lacking .result) (lacks counted (a .home .now) (a .log .now)) within in
-    (within, (few began, room))
+append-oldest-requires : tie.Need-append-oldest-requires
+append-oldest-requires c κs = search needs
 
 mul-if2 : tie.Need-mul-if2
 mul-if2 c =
@@ -96,10 +88,10 @@ returns-2 c =
     let number = began .before .evict-refusal in
     let a = began .before .before .before .before .before .before .before .before .args in
     let mem = memory (a .home .now) (a .working .now) (a .log .now) in
-    let log = logged .append-redos in
+    let log = logged .append-oldest in
     evict-cut (a .line) (a .supply) (a .self) mem (number .result) (number .ensures) (began .if1 .left)
     (counted .lacking .result) (lacks counted (a .home .now) (a .log .now)) (counted .lacking .ensures .0)
-    (log .last .0) (log .result) (log .ensures .0) (log .ensures .1)
+    (log .last .0) (log .result) (oldest-appended false (counted .lacking .result) (a .self .redos) (few began) (log .ensures))
     (ended .cut .result) (ended .cut .last .0) (ended .before .before .if2 .taken) (ended .cut .ensures .0) (ended .cut .ensures .1)
 
 set-down-requires : tie.Need-set-down-requires
@@ -127,10 +119,10 @@ returns-3 c =
     let number = began .before .evict-refusal in
     let a = began .before .before .before .before .before .before .before .before .args in
     let mem = memory (a .home .now) (a .working .now) (a .log .now) in
-    let log = logged .append-redos in
+    let log = logged .append-oldest in
     evict-done (a .line) (a .supply) (a .self) mem (number .result) (number .ensures) (began .if1 .left)
     (counted .lacking .result) (lacks counted (a .home .now) (a .log .now)) (counted .lacking .ensures .0)
-    (log .last .0) (log .result) (log .ensures .0) (log .ensures .1)
+    (log .last .0) (log .result) (oldest-appended false (counted .lacking .result) (a .self .redos) (few began) (log .ensures))
     (c .set-down .result) (c .before .before .if2 .left) (c .set-down .ensures)
 
 pub evict-spec : {M : Type 1} → statement M
@@ -144,7 +136,7 @@ evict-spec =
     returns
     line-requires
     lacking-requires
-    append-redos-requires
+    append-oldest-requires
     mul-if2
     cut-requires
     same-length-4

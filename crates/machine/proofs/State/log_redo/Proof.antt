@@ -1,5 +1,6 @@
 -- `State::log_redo` meets its contract: refused, cut, or done with the oldest redo entry logged.
 use mathlib.Core.Path.{_≡_, refl}
+use mathlib.Core.Bool.{false}
 use mathlib.Core.List.{_++_, map}
 use native.Mathlib.Omega.{arith}
 use borrow.Author.Needs.{needs}
@@ -8,6 +9,7 @@ use Rattle.model.specs.Plan.{append, planned}
 use Rattle.model.specs.Refusals.{unless, common}
 use Rattle.model.specs.Steps.{redoRecord, redosLogged, logRedoPlan}
 use Rattle.model.specs.Step.{logRedo, planOf}
+use Rattle.logging.proofs.Guards.{oldest-appended}
 use Rattle.machine.specs.declared.State.{State}
 use Rattle.machine.specs.View.{view, memory}
 use Rattle.machine.proofs.LoggingOldest.{ownRows, oldest, count-oldest, Ready, ready, oldest-refused, oldest-cut, oldest-done}
@@ -51,10 +53,8 @@ returns c =
     oldest-refused logRedo redoRecord (s .redos) (a .supply) (view s) mem (redosLogged 1 (view s)) (plan s mem) (c .before .refusal .result)
     (c .before .refusal .ensures (oldest redoRecord (s .redos)) (count-oldest redoRecord (s .redos))) (c .if1 .taken) refl
 
-append-redos-requires : tie.Need-append-redos-requires
-append-redos-requires c κs =
-    let k = known (c .before) in
-    (k .some, (k .short, omega arith))
+append-oldest-requires : tie.Need-append-oldest-requires
+append-oldest-requires c κs = search needs
 
 cut-requires : tie.Need-cut-requires
 cut-requires c κs = search needs
@@ -75,10 +75,10 @@ returns-2 c =
     let a = passed .before .before .before .before .before .before .before .before .before .args in
     let s = a .self in
     let mem = memory (a .home .now) (a .working .now) (a .log .now) in
-    let e = appended .append-redos in
+    let e = appended .append-oldest in
     let d = c .before .before .cut in
     oldest-cut logRedo redoRecord (s .redos) (a .supply) (view s) mem (redosLogged 1 (view s)) (plan s mem) (known passed) (d .result) (d .last .0)
-    (e .last .0) (e .result) (c .before .before .before .before .if2 .taken) (record { left = e .ensures .0; log = e .ensures .1 })
+    (e .last .0) (e .result) (c .before .before .before .before .if2 .taken) (oldest-appended false 1 (s .redos) (known passed .short) (e .ensures))
     (d .ensures .0) (d .ensures .1)
 
 redos-logged-requires : tie.Need-redos-logged-requires
@@ -102,10 +102,10 @@ returns-3 c =
     let a = passed .before .before .before .before .before .before .before .before .before .args in
     let s = a .self in
     let mem = memory (a .home .now) (a .working .now) (a .log .now) in
-    let e = appended .append-redos in
+    let e = appended .append-oldest in
     oldest-done logRedo redoRecord (s .redos) (a .supply) (view s) mem (redosLogged 1 (view s)) (plan s mem) (known passed)
     (record { answer = 0; left = e .result; state = c .redos-logged .result }) (e .last .0) (c .before .if2 .left)
-    (record { left = e .ensures .0; log = e .ensures .1 }) refl (c .redos-logged .ensures)
+    (oldest-appended false 1 (s .redos) (known passed .short) (e .ensures)) refl (c .redos-logged .ensures)
 
 pub log-redo-spec : {M : Type 1} → statement M
 log-redo-spec =
@@ -116,7 +116,7 @@ log-redo-spec =
     same-length-2
     same-length-3
     returns
-    append-redos-requires
+    append-oldest-requires
     cut-requires
     same-length-4
     same-length-5

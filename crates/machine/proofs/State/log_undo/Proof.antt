@@ -1,5 +1,6 @@
 -- `State::log_undo` meets its contract: refused, cut, or done with the oldest undo+redo entry logged.
 use mathlib.Core.Path.{_≡_, refl}
+use mathlib.Core.Bool.{true}
 use mathlib.Core.List.{_++_, map}
 use native.Mathlib.Omega.{arith}
 use borrow.Author.Needs.{needs}
@@ -8,6 +9,7 @@ use Rattle.model.specs.Plan.{append, planned}
 use Rattle.model.specs.Refusals.{unless, common}
 use Rattle.model.specs.Steps.{undoRedoRecord, undosLogged, logUndoPlan}
 use Rattle.model.specs.Step.{logUndo, planOf}
+use Rattle.logging.proofs.Guards.{oldest-appended}
 use Rattle.machine.specs.declared.State.{State}
 use Rattle.machine.specs.View.{view, memory}
 use Rattle.machine.proofs.LoggingOldest.{ownRows, oldest, count-oldest, Ready, ready, oldest-refused, oldest-cut, oldest-done}
@@ -51,10 +53,8 @@ returns c =
     oldest-refused logUndo undoRedoRecord (s .undos) (a .supply) (view s) mem (undosLogged 1 (view s)) (plan s mem) (c .before .refusal .result)
     (c .before .refusal .ensures (oldest undoRedoRecord (s .undos)) (count-oldest undoRedoRecord (s .undos))) (c .if1 .taken) refl
 
-append-undos-requires : tie.Need-append-undos-requires
-append-undos-requires c κs =
-    let k = known (c .before) in
-    (k .some, (k .short, omega arith))
+append-oldest-requires : tie.Need-append-oldest-requires
+append-oldest-requires c κs = search needs
 
 cut-requires : tie.Need-cut-requires
 cut-requires c κs = search needs
@@ -75,10 +75,10 @@ returns-2 c =
     let a = passed .before .before .before .before .before .before .before .before .before .args in
     let s = a .self in
     let mem = memory (a .home .now) (a .working .now) (a .log .now) in
-    let e = appended .append-undos in
+    let e = appended .append-oldest in
     let d = c .before .before .cut in
     oldest-cut logUndo undoRedoRecord (s .undos) (a .supply) (view s) mem (undosLogged 1 (view s)) (plan s mem) (known passed) (d .result) (d .last .0)
-    (e .last .0) (e .result) (c .before .before .before .before .if2 .taken) (record { left = e .ensures .0; log = e .ensures .1 })
+    (e .last .0) (e .result) (c .before .before .before .before .if2 .taken) (oldest-appended true 1 (s .undos) (known passed .short) (e .ensures))
     (d .ensures .0) (d .ensures .1)
 
 undos-logged-requires : tie.Need-undos-logged-requires
@@ -102,10 +102,10 @@ returns-3 c =
     let a = passed .before .before .before .before .before .before .before .before .before .args in
     let s = a .self in
     let mem = memory (a .home .now) (a .working .now) (a .log .now) in
-    let e = appended .append-undos in
+    let e = appended .append-oldest in
     oldest-done logUndo undoRedoRecord (s .undos) (a .supply) (view s) mem (undosLogged 1 (view s)) (plan s mem) (known passed)
     (record { answer = 0; left = e .result; state = c .undos-logged .result }) (e .last .0) (c .before .if2 .left)
-    (record { left = e .ensures .0; log = e .ensures .1 }) refl (c .undos-logged .ensures)
+    (oldest-appended true 1 (s .undos) (known passed .short) (e .ensures)) refl (c .undos-logged .ensures)
 
 pub log-undo-spec : {M : Type 1} → statement M
 log-undo-spec =
@@ -116,7 +116,7 @@ log-undo-spec =
     same-length-2
     same-length-3
     returns
-    append-undos-requires
+    append-oldest-requires
     cut-requires
     same-length-4
     same-length-5

@@ -1,16 +1,11 @@
 -- `State::recover` meets its contract: it is refused before or after it reads the log, cut, or done.
 use mathlib.Core.Path.{_≡_, refl, sym, _∙_}
-use mathlib.Core.Bool.{false}
 use native.Mathlib.Omega.{arith}
-use lib.ListN.{length}
-use Rattle.log.specs.Region.{recordsOf}
-use Rattle.model.specs.Lists.{any}
 use Rattle.model.specs.Machine.{Memory}
 use Rattle.model.specs.Refusals.{numberOf}
-use Rattle.model.specs.Steps.{isBad}
 use Rattle.machine.specs.View.{memory}
 use Rattle.machine.specs.Recovering.{unreadableRows}
-use Rattle.machine.proofs.RecoverStep.{fits-unread, refused-unread, refused-damaged, recover-refused, recover-cut, recover-done}
+use Rattle.machine.proofs.RecoverStep.{fits-unread, refused-unread, recover-refused, recover-damaged, recover-cut, recover-done}
 use borrow.Author.Needs.{needs}
 use Rattle.machine.proofs.State.recover.Statement.{statement}
 use Rattle.machine.proofs.State.recover.Tie as tie
@@ -18,8 +13,8 @@ use Rattle.machine.proofs.State.recover.Tie as tie
 unreadable-requires : tie.Need-unreadable-requires
 unreadable-requires c κs = search needs
 
-lost-state-requires : tie.Need-lost-state-requires
-lost-state-requires c κs = search needs
+lost-requires : tie.Need-lost-requires
+lost-requires c κs = search needs
 
 same-length : tie.Need-same-length
 same-length c = search needs
@@ -39,7 +34,9 @@ returns c =
     (c .before .if1 .taken)
     refl
     refl
-    (c .lost-state .ensures)
+    (c .lost .ensures)
+    refl
+    refl
     refl
 
 -- the buffers at the start, where the log can be read
@@ -51,21 +48,27 @@ before c =
 zero : (c : tie.Else1) → 0 ≡ numberOf (unreadableRows (before c))
 zero c = sym (c .if1 .left) ∙ c .before .unreadable .ensures
 
--- no record is bad, where it goes on
-good : (c : tie.Else2) → let m = before (c .before .before .before) in false ≡ any isBad (recordsOf (length (m .home)) (m .log))
-good c = sym (c .if2 .left) ∙ c .before .scan .ensures .bad
-
 cast-words : tie.Need-cast-words
 cast-words c =
     let r = fits-unread (before c) (zero c) in
     let w = r .width in
     omega arith
 
-scan-requires : tie.Need-scan-requires
-scan-requires c κs = search needs
+slots-requires : tie.Need-slots-requires
+slots-requires c κs = search needs
 
-lost-state-requires-2 : tie.Need-lost-state-requires-2
-lost-state-requires-2 c κs = search needs
+cast-slots : tie.Need-cast-slots
+cast-slots c =
+    let read = c .before .before in
+    let r = fits-unread (before read) (zero read) in
+    let e = c .slots .ensures in
+    omega arith
+
+replay-requires : tie.Need-replay-requires
+replay-requires c κs = search needs
+
+lost-requires-2 : tie.Need-lost-requires-2
+lost-requires-2 c κs = search needs
 
 same-length-4 : tie.Need-same-length-4
 same-length-4 c = search needs
@@ -78,28 +81,16 @@ same-length-6 c = search needs
 
 returns-2 : tie.Need-returns-2
 returns-2 c =
-    let read = c .before .before .before .before in
+    let after = c .before .before .before .before in
+    let read = after .before .before .before .before .before in
     let a = read .before .before .before .before .before .before .before .before .args in
-    recover-refused (before read) (a .supply) _ 14
-    (refused-damaged (before read) (zero read) (sym (c .before .if2 .taken) ∙ c .before .before .scan .ensures .bad))
-    (λ e. omega arith)
+    recover-damaged (before read) (a .supply) _ (zero read) (after .replay .result) (after .replay .ensures .0) (after .replay .ensures .1)
+    (c .before .if2 .taken)
     refl
     refl
-    (c .lost-state2 .ensures)
+    (c .lost2 .ensures)
     refl
-
-slots-requires : tie.Need-slots-requires
-slots-requires c κs = search needs
-
-cast-slots : tie.Need-cast-slots
-cast-slots c =
-    let read = c .before .before .before .before .before in
-    let r = fits-unread (before read) (zero read) in
-    let e = c .slots .ensures in
-    omega arith
-
-replay-requires : tie.Need-replay-requires
-replay-requires c κs = search needs
+    refl
 
 set-head-requires : tie.Need-set-head-requires
 set-head-requires c κs = search needs
@@ -118,16 +109,13 @@ same-length-9 c = search needs
 
 returns-3 : tie.Need-returns-3
 returns-3 c =
-    let headed = c .before .before .before .before .before .before .before in
-    let replayed = headed .before .before .before .before in
-    let on = replayed .before .before .before .before .before in
-    let read = on .before .before .before in
+    let headed = c .before .before .before .before .before .before .before .before in
+    let after = headed .before .before .before .before .before in
+    let read = after .before .before .before .before .before in
     let a = read .before .before .before .before .before .before .before .before .args in
     let out = c .before .before .cut .ensures in
-    recover-cut (before read) (a .supply) _ (zero read) (good on) (replayed .replay .result) (on .before .scan .result .tail)
-    (replayed .replay .ensures .0)
-    (on .before .scan .ensures .tail)
-    (replayed .replay .ensures .1)
+    recover-cut (before read) (a .supply) _ (zero read) (after .replay .result) (after .replay .ensures .0) (after .replay .ensures .1)
+    (headed .before .before .if2 .left)
     (headed .set-head .ensures .1)
     (c .before .before .before .before .if3 .taken)
     (out .0 .0)
@@ -137,14 +125,14 @@ returns-3 c =
 
 copy-requires : tie.Need-copy-requires
 copy-requires c κs =
-    let replayed = c .before .before .before .before .before .before .before .before .before in
-    let read = replayed .before .before .before .before .before .before .before .before in
-    fits-unread (before read) (zero read) .working ∙ sym (replayed .replay .kept .0)
+    let after = c .before .before .before .before .before .before .before .before .before .before .before in
+    let read = after .before .before .before .before .before in
+    fits-unread (before read) (zero read) .working ∙ sym (after .replay .kept .0)
 
 fresh-state-requires : tie.Need-fresh-state-requires
 fresh-state-requires c κs =
-    let replayed = c .before .before .before .before .before .before .before .before .before .before .before .before in
-    let read = replayed .before .before .before .before .before .before .before .before in
+    let after = c .before .before .before .before .before .before .before .before .before .before .before .before .before .before in
+    let read = after .before .before .before .before .before in
     fits-unread (before read) (zero read) .width .most
 
 same-length-10 : tie.Need-same-length-10
@@ -158,18 +146,15 @@ same-length-12 c = search needs
 
 returns-4 : tie.Need-returns-4
 returns-4 c =
-    let headed = c .before .before .before .before .before .before .before .before .before in
-    let replayed = headed .before .before .before .before in
-    let on = replayed .before .before .before .before .before in
-    let read = on .before .before .before in
+    let headed = c .before .before .before .before .before .before .before .before .before .before in
+    let after = headed .before .before .before .before .before in
+    let read = after .before .before .before .before .before in
     let a = read .before .before .before .before .before .before .before .before .args in
-    recover-done (before read) (a .supply) _ (zero read) (good on) (replayed .replay .result) (on .before .scan .result .tail)
-    (replayed .replay .ensures .0)
-    (on .before .scan .ensures .tail)
-    (replayed .replay .ensures .1)
+    recover-done (before read) (a .supply) _ (zero read) (after .replay .result) (after .replay .ensures .0) (after .replay .ensures .1)
+    (headed .before .before .if2 .left)
     (headed .set-head .ensures .1)
-    (replayed .before .before .before .slots .result)
-    (replayed .before .before .before .slots .ensures)
+    (after .before .before .before .slots .result)
+    (after .before .before .before .slots .ensures)
     (c .before .before .before .before .before .before .if3 .left)
     refl
     (headed .set-head .ensures .0)
@@ -181,21 +166,20 @@ recover-spec =
     tie.close
     (tie.spec
     unreadable-requires
-    lost-state-requires
+    lost-requires
     same-length
     same-length-2
     same-length-3
     returns
     cast-words
-    scan-requires
-    lost-state-requires-2
+    slots-requires
+    cast-slots
+    replay-requires
+    lost-requires-2
     same-length-4
     same-length-5
     same-length-6
     returns-2
-    slots-requires
-    cast-slots
-    replay-requires
     set-head-requires
     cut-requires
     same-length-7

@@ -1,10 +1,13 @@
 -- `store` hands back what the model's store gives. Assumes nothing.
-use borrow.Author.Needs.{needs}
+use Prim.Native.Nat.{_≤_}
 use mathlib.Core.Path.{refl, sym, _∙_}
+use mathlib.Core.Bool.{true}
+use borrow.Author.Needs.{needs}
 use native.Mathlib.Omega.{arith}
 use lib.Dec.{eqb}
 use lib.ListN.{getD}
 use Rattle.model.specs.Machine.{Memory}
+use Rattle.logging.proofs.Guards.{oldest-appended}
 use Rattle.machine.specs.View.{view, memory}
 use Rattle.machine.proofs.Filing.{logs-most, waiting-length}
 use Rattle.machine.proofs.StoreRows.{store-refused, Allowed, allowed, store-done, store-cut}
@@ -74,16 +77,12 @@ logs-first-requires c κs =
     let whole = a .known .width .whole in
     omega arith
 
-append-undos-requires : tie.Need-append-undos-requires
-append-undos-requires c κs =
-    let a = allowed-here (c .before .before .before .before) in
-    let s = start (c .before .before .before .before) .args in
-    let few = logs-most (view (s .self)) (s .word) (eqb (s .value) (getD (s .working .now) (s .word) 0)) in
-    let count = c .before .logs-first .ensures in
-    let len = waiting-length (s .self .undos) in
-    let size = a .known .fits .clauses .undoSize in
-    let below = a .below in
-    omega arith
+append-oldest-requires : tie.Need-append-oldest-requires
+append-oldest-requires c κs = search needs
+
+-- the undo+redo buffer has at most 16 entries
+few : (c : tie.Else1) → start c .args .self .undos .len ≤ 32
+few c = omega (arith, waiting-length (start c .args .self .undos), allowed-here c .known .fits .clauses .undoSize)
 
 mul-if2-2 : tie.Need-mul-if2-2
 mul-if2-2 c =
@@ -109,10 +108,10 @@ returns-2 c =
     let here = c .before .before .before .before .before .before .before .before .before .before .before .before in
     let s = start here .args in
     let count = c .before .before .before .before .before .before .before .before .before .logs-first in
-    let appended = c .before .before .before .before .before .before .before .append-undos in
+    let appended = c .before .before .before .before .before .before .before .append-oldest in
     store-cut (s .self) (lent (start here)) (s .supply) (s .thread) (s .word) (s .value) (allowed-here here)
     (count .result) (count .ensures)
-    (c .before .before .cut .result) (appended .last .0) (appended .result) (appended .ensures .0) (appended .ensures .1)
+    (c .before .before .cut .result) (appended .last .0) (appended .result) (oldest-appended true (count .result) (s .self .undos) (few here) (appended .ensures))
     (c .before .before .cut .last .0) (c .before .before .before .before .if2 .taken)
     (c .before .before .cut .ensures .0) (c .before .before .cut .ensures .1)
 
@@ -153,11 +152,11 @@ returns-3 c =
     let here = c .before .before .before .before .before .before .before .before .before in
     let s = start here .args in
     let count = c .before .before .before .before .before .before .logs-first in
-    let appended = c .before .before .before .before .append-undos in
+    let appended = c .before .before .before .before .append-oldest in
     store-done (s .self) (lent (start here)) (s .supply) (s .thread) (s .word) (s .value) (allowed-here here)
     (count .result) (count .ensures)
     (record { answer = 0; left = appended .result; state = c .next-state .result })
-    (appended .last .0) (appended .result) (appended .ensures .0) (appended .ensures .1)
+    (appended .last .0) (appended .result) (oldest-appended true (count .result) (s .self .undos) (few here) (appended .ensures))
     (c .before .if2 .left) refl refl (c .next-state .ensures (lent (start here)) refl)
 
 pub store-spec : {M : Type 1} → statement M
@@ -174,7 +173,7 @@ store-spec =
     mul-if2
     slice-read-if2
     logs-first-requires
-    append-undos-requires
+    append-oldest-requires
     mul-if2-2
     cut-requires
     same-length-4

@@ -1,6 +1,6 @@
 -- `State::write_back` meets its contract: refused, cut, or done.
 use Rattle.machine.specs.View.{view, memory}
-use Rattle.machine.proofs.LineRows.{LineFit, line-there}
+use Rattle.machine.proofs.LineRows.{LineFit}
 use Rattle.machine.proofs.WritingBack.{write-refused, write-fit, write-cut, write-done}
 use borrow.Author.Needs.{needs}
 use Rattle.machine.proofs.State.write_back.Statement.{statement}
@@ -34,8 +34,8 @@ returns c =
     let number = c .before .line-refusal in
     write-refused (a .line) (a .supply) (a .self) mem (number .result) (number .ensures) (c .if1 .taken)
 
-store-home-requires : tie.Need-store-home-requires
-store-home-requires c κs = line-there (passed (c .before .before))
+store-line-requires : tie.Need-store-line-requires
+store-line-requires c κs = search needs
 
 cut-requires : tie.Need-cut-requires
 cut-requires c κs = search needs
@@ -58,7 +58,7 @@ returns-2 c =
     let a = began .before .before .before .before .before .before .before .before .args in
     let mem = memory (a .home .now) (a .working .now) (a .log .now) in
     write-cut (a .line) (a .supply) (a .self) mem (number .result) (number .ensures) (began .if1 .left)
-    (stored .store-home .last .0) (stored .store-home .ensures .1)
+    (stored .store-line .last .0) (stored .store-line .ensures .1)
     (ended .cut .result) (ended .cut .last .0) (ended .before .before .if2 .taken) (ended .cut .ensures .0) (ended .cut .ensures .1)
 
 written-requires : tie.Need-written-requires
@@ -81,8 +81,8 @@ returns-3 c =
     let a = began .before .before .before .before .before .before .before .before .args in
     let mem = memory (a .home .now) (a .working .now) (a .log .now) in
     write-done (a .line) (a .supply) (a .self) mem (number .result) (number .ensures) (began .if1 .left)
-    (stored .store-home .last .0) (stored .store-home .ensures .1) (stored .store-home .result)
-    (c .written .result) (c .before .before .if2 .left) (stored .store-home .ensures .0) (c .written .ensures)
+    (stored .store-line .last .0) (stored .store-line .ensures .1) (stored .store-line .result)
+    (c .written .result) (c .before .before .if2 .left) (stored .store-line .ensures .0) (c .written .ensures)
 
 pub write-back-spec : {M : Type 1} → statement M
 write-back-spec =
@@ -93,7 +93,7 @@ write-back-spec =
     same-length-2
     same-length-3
     returns
-    store-home-requires
+    store-line-requires
     cut-requires
     same-length-4
     same-length-5

@@ -1,5 +1,9 @@
 -- `committed` meets its contract.
+use Prim.Native.Nat.{_/_}
+use mathlib.Core.Path.{_∙_}
+use native.Mathlib.Omega.{arith}
 use borrow.Author.Needs.{needs}
+use Rattle.line_walks.proofs.ReleasedLines.{released-all}
 use Rattle.machine.proofs.Commits.{commit-next}
 use Rattle.machine.proofs.committing.committed.Statement.{statement}
 use Rattle.machine.proofs.committing.committed.Tie as tie
@@ -27,7 +31,9 @@ returns c =
     let logged = c .before .before .before .before .before .undos-logged in
     let a = c .before .before .before .before .before .before .args in
     commit-next (a .state) (logged .result) (c .before .before .release .result) (c .before .empty .result) (a .thread) (a .count)
-    (logged .ensures) (c .before .before .release .ensures) (c .before .empty .ensures)
+    (logged .ensures)
+    (c .before .before .release .ensures (a .state .words / 8) (omega arith) ∙ released-all (a .thread) (a .state .words / 8) (logged .result .lines))
+    (c .before .empty .ensures)
 
 pub committed-spec : {M : Type 1} → statement M
 committed-spec =

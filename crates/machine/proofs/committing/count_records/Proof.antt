@@ -1,9 +1,9 @@
 -- `count_records` meets its contract.
-use Prim.Native.Nat.{_*_, _/_, _≤_}
+use Prim.Native.Nat.{_*_, _/_, _≤_, min}
 use native.Mathlib.Omega.{arith}
 use borrow.Author.Needs.{needs}
 use Rattle.parts.specs.Lines.{firstLines}
-use Rattle.machine.proofs.Newest.{newest-few}
+use Rattle.logging.proofs.NewestWords.{newest-few}
 use Rattle.machine.proofs.Commits.{commit-count}
 use Rattle.machine.proofs.committing.count_records.Statement.{statement}
 use Rattle.machine.proofs.committing.count_records.Tie as tie
@@ -21,7 +21,7 @@ add-result c = search needs
 few : (c : tie.After-struct-known2) → c .before .count-newest .result ≤ 512
 few c =
     let a = c .before .before .before .before .args in
-    let n = a .state .words / 8 in
+    let n = min (a .state .words / 8) 64 in
     omega (arith, newest-few (firstLines n (a .state .lines)) (a .thread) (8 * n), c .before .count-newest .ensures, c .before .before .before .before .pre)
 
 add-result-2 : tie.Need-add-result-2
@@ -35,7 +35,7 @@ returns c =
     let a = c .before .before .before .before .args in
     let p = c .before .before .before .before .pre in
     let n = c .before .count-newest in
-    (λ mem. commit-count (a .state) mem (a .thread) (n .result) (p .1 .0) (n .ensures), omega (arith, few c))
+    (λ mem. commit-count (a .state) mem (a .thread) (n .result) (p .0) (p .1 .0) (n .ensures), omega (arith, few c))
 
 pub count-records-spec : {M : Type 1} → statement M
 count-records-spec =

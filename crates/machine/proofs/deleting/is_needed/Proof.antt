@@ -4,7 +4,7 @@ use Rattle.log.specs.declared.Reading.{Reading}
 use Rattle.model.specs.Steps.{isNeeded}
 use Rattle.machine.specs.View.{view}
 use Rattle.machine.specs.Deleting.{later}
-use Rattle.machine.proofs.ReadOn.{valid-record}
+use Rattle.recovery.proofs.ReadOn.{valid-record}
 use Rattle.machine.proofs.DeleteStep.{needed-by}
 use borrow.Author.Needs.{needs}
 use Rattle.machine.proofs.deleting.is_needed.Statement.{statement}

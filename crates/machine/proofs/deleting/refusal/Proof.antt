@@ -9,7 +9,7 @@ use Rattle.model.specs.Steps.{isBad, isNeeded}
 use Rattle.machine.specs.View.{view, memory}
 use Rattle.machine.specs.Deleting.{later}
 use Rattle.machine.proofs.Outcome.{width}
-use Rattle.machine.proofs.ReadOn.{valid-read}
+use Rattle.recovery.proofs.ReadOn.{valid-read}
 use Rattle.machine.proofs.DeleteStep.{fits, refused-first, refused-nothing, refused-oldest}
 use borrow.Author.Needs.{needs}
 use Rattle.machine.proofs.deleting.refusal.Statement.{statement}

@@ -1,10 +1,7 @@
 -- `evicting::set_down` meets its contract: there is a place for each new entry, and the line's words become Clean.
-use Prim.Native.Nat.{_+_, _*_, _≤_}
 use mathlib.Core.List.{[]}
-use native.Mathlib.Omega.{arith}
-use lib.ListN.{length}
 use Rattle.machine.specs.View.{memory}
-use Rattle.machine.proofs.Eviction.{places, set-down}
+use Rattle.machine.proofs.Eviction.{set-down}
 use borrow.Author.Needs.{needs}
 use Rattle.machine.proofs.evicting.set_down.Statement.{statement}
 use Rattle.machine.proofs.evicting.set_down.Tie as tie
@@ -19,19 +16,10 @@ mul-add-ulog : tie.Need-mul-add-ulog
 mul-add-ulog c = search needs
 
 add-ulog-requires : tie.Need-add-ulog-requires
-add-ulog-requires c κs =
-    let start = c .before .before .before .before .before in
-    let a = start .args in
-    let h : 8 * a .line + 8 ≤ length (a .working .now) = omega (arith, start .pre .0) in
-    let w : length (a .working .now) ≤ 512 = omega (arith, start .pre .0) in
-    let t = c .before .before .redos-logged in (
-      (h, w),
-      places (a .state) (a .line) (c .line .result) (c .line .ensures) (start .pre .0 .0) (t .result) (memory [] (a .working .now) []) (a .count)
-          (t .ensures) (start .pre .1 .1 .1 .1) (start .pre .1 .0),
-    )
+add-ulog-requires c κs = search needs
 
-cleaned-requires : tie.Need-cleaned-requires
-cleaned-requires c κs = search needs
+clean-requires : tie.Need-clean-requires
+clean-requires c κs = search needs
 
 returns : tie.Need-returns
 returns c =
@@ -40,7 +28,8 @@ returns c =
     let line = c .before .before .line in
     let t = c .before .before .before .before .redos-logged in
     set-down (a .state) (a .line) (line .result) (line .ensures) (start .pre .0 .0) (t .result) (memory [] (a .working .now) []) (a .count)
-    (c .before .add-ulog .result) (c .cleaned .result) (start .pre .0 .1 .0) (t .ensures) (c .before .add-ulog .ensures) (c .cleaned .ensures)
+    (c .before .add-ulog .result) (c .clean .result) (start .pre .0 .1 .0) (start .pre .0 .1 .1) (t .ensures) (start .pre .1 .1 .1 .1) (start .pre .1 .0)
+    (c .before .add-ulog .ensures) (c .clean .ensures)
 
 pub set-down-spec : {M : Type 1} → statement M
 set-down-spec =
@@ -50,5 +39,5 @@ set-down-spec =
     line-requires
     mul-add-ulog
     add-ulog-requires
-    cleaned-requires
+    clean-requires
     returns)

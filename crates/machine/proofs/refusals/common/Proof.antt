@@ -1,6 +1,8 @@
 -- `refusals::common` meets its contract: its rows are those of the table.
 use Rattle.model.specs.Consistent.{consistentWith}
 use Rattle.model.specs.Refusals.{numberOf}
+use Rattle.machine.specs.View.{view}
+use mathlib.Core.Path.{refl}
 use borrow.Author.Needs.{needs}
 use Rattle.machine.proofs.refusals.common.Statement.{statement}
 use Rattle.machine.proofs.refusals.common.Tie as tie
@@ -30,7 +32,7 @@ returns c =
       c .refuse3 .ensures,
       c .before .refuse2 .ensures,
       c .before .before .refuse .ensures,
-      c .before .before .before .wrong-size .ensures,
+      c .before .before .before .wrong-size .ensures (view (c .before .before .before .before .before .before .before .before .before .before .args .state)) refl refl refl,
       c .before .before .before .before .before .head .ensures,
       c .before .before .before .before .before .before .is-consistent .ensures,
     )

@@ -3,9 +3,6 @@ use borrow.Author.Needs.{needs}
 use Rattle.machine.proofs.refusals.no_room.Statement.{statement}
 use Rattle.machine.proofs.refusals.no_room.Tie as tie
 
-cast-free : tie.Need-cast-free
-cast-free c = search needs
-
 sub-free : tie.Need-sub-free
 sub-free c = search needs
 
@@ -26,5 +23,4 @@ returns c = simp (c .refuse2 .ensures, c .before .refuse .ensures)
 
 pub no-room-spec : {M : Type 1} → statement M
 no-room-spec =
-    tie.close
-    (tie.spec cast-free sub-free sub-free-2 add-refuse refuse-requires refuse-requires-2 returns)
+    tie.close (tie.spec sub-free sub-free-2 add-refuse refuse-requires refuse-requires-2 returns)

@@ -7,7 +7,7 @@ use Rattle.parts.specs.declared.Lines.{Lines}
 use Rattle.parts.specs.Lines.{firstLines}
 use Rattle.parts.proofs.FirstLines.{WholeLines}
 use Rattle.model.specs.Machine.{heldBy, dirtyAs}
-use Rattle.machine.proofs.WordLines.{first-changed}
+use Rattle.model.proofs.LinesInUse.{first-changed}
 use Rattle.machine.proofs.storing.claimed.Statement.{statement}
 use Rattle.machine.proofs.storing.claimed.Tie as tie
 

@@ -3,7 +3,7 @@ use Prim.Native.Nat.{_/_}
 use mathlib.Core.Path.{_∙_, ap}
 use Rattle.parts.specs.declared.Line.{Line}
 use Rattle.model.specs.Machine.{holderIn}
-use Rattle.machine.proofs.WordLines.{line-in-use}
+use Rattle.model.proofs.LinesInUse.{line-in-use}
 use borrow.Author.Needs.{needs}
 use Rattle.machine.proofs.words.holder_of.Statement.{statement}
 use Rattle.machine.proofs.words.holder_of.Tie as tie

@@ -5,8 +5,8 @@ use native.Mathlib.Omega.{arith}
 use lib.ListN.{length, take, drop}
 use Rattle.parts.specs.Waiting.{waiting}
 use Rattle.parts.proofs.Waiting.{changed-within}
+use Rattle.parts.proofs.Oldest.{length-oldest}
 use Rattle.model.specs.Steps.{redoRecord}
-use Rattle.machine.proofs.Oldest.{length-oldest}
 use borrow.Author.Needs.{needs}
 use Rattle.machine.proofs.words.redos_logged.Statement.{statement}
 use Rattle.machine.proofs.words.redos_logged.Tie as tie

@@ -4,7 +4,7 @@ use mathlib.Core.Path.{_∙_, ap}
 use Rattle.parts.specs.declared.Line.{Line}
 use Rattle.parts.specs.States.{stateAt}
 use Rattle.model.specs.Machine.{stateIn}
-use Rattle.machine.proofs.WordLines.{line-in-use}
+use Rattle.model.proofs.LinesInUse.{line-in-use}
 use borrow.Author.Needs.{needs}
 use Rattle.machine.proofs.words.state_of.Statement.{statement}
 use Rattle.machine.proofs.words.state_of.Tie as tie

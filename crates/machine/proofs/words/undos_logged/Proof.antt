@@ -6,8 +6,9 @@ use native.Mathlib.Omega.{arith}
 use lib.ListN.{length, take, drop}
 use Rattle.parts.specs.Waiting.{waiting}
 use Rattle.parts.proofs.Waiting.{changed-within}
+use Rattle.parts.proofs.Oldest.{length-oldest}
 use Rattle.model.specs.Steps.{undoRedoRecord}
-use Rattle.machine.proofs.Oldest.{length-oldest}
+use Rattle.line_walks.proofs.WordStates.{oldest-all}
 use borrow.Author.Needs.{needs}
 use Rattle.machine.proofs.words.undos_logged.Statement.{statement}
 use Rattle.machine.proofs.words.undos_logged.Tie as tie
@@ -28,7 +29,8 @@ returns c =
     let rest : waiting (c .before .before .drop-oldest .result) ≡ drop (a .count) (waiting b) =
     c .before .before .drop-oldest .ensures ∙ sym (changed-within b (drop (a .count) (waiting b)) (omega arith)) in
     let n : length (map undoRedoRecord (take (a .count) (waiting b))) ≡ a .count = length-oldest undoRedoRecord (a .count) b (omega arith) in
-    rw (rest, n, c .before .all-logged .ensures (a .state .words / 8) (omega arith))
+    let lines = c .before .all-logged .ensures (a .state .words / 8) (omega arith) in
+    rw (rest, n, lines, oldest-all (a .count) b (omega arith))
 
 pub undos-logged-spec : {M : Type 1} → statement M
 undos-logged-spec = tie.close (tie.spec drop-oldest-requires all-logged-requires add-next returns)

@@ -1,0 +1,109 @@
+//! A case: what a few steps cost after others, on both sides.
+
+use crate::sides::{Buffers, Side};
+use crate::steps::Steps;
+use std::time::{Duration, Instant};
+
+/// The steps timed are those of the whole list that `before` lacks, and `per`
+/// of them, or of what they make up, is what the time is divided by.
+pub struct Case {
+    pub name: String,
+    start: Buffers,
+    before: Steps,
+    whole: Steps,
+    per: f64,
+    best: Lists,
+}
+
+/// The shortest times of the list before on both sides, then of the whole list.
+pub type Lists = [f64; 4];
+
+/// Nanoseconds for one, on both sides.
+#[derive(Clone, Copy)]
+pub struct Times {
+    pub twin: f64,
+    pub rattle: f64,
+}
+
+impl Times {
+    pub fn ratio(self) -> f64 {
+        self.rattle / self.twin
+    }
+}
+
+impl Case {
+    /// Times what `timed` adds to the list `before`, which runs on `start`.
+    pub fn new(
+        name: impl Into<String>,
+        start: Buffers,
+        before: Steps,
+        per: u64,
+        timed: impl Fn(Steps) -> Steps,
+    ) -> Case {
+        let whole = timed(before.clone());
+        Case {
+            name: name.into(),
+            start,
+            before,
+            whole,
+            per: per as f64,
+            best: [f64::INFINITY; 4],
+        }
+    }
+
+    pub fn called(self, name: impl Into<String>) -> Case {
+        Case {
+            name: name.into(),
+            ..self
+        }
+    }
+
+    /// Runs both lists on both sides in turn, for about this long.
+    pub fn measure(&self, long: Duration) -> Lists {
+        let clock = Instant::now();
+        let (mut twins, mut ours) = (self.start.clone(), self.start.clone());
+        let mut best = [f64::INFINITY; 4];
+        let mut rounds = 0;
+        while rounds < 5 || clock.elapsed() < long {
+            for whole in [false, true] {
+                let at = 2 * whole as usize;
+                best[at] = best[at].min(self.time(whole, Side::Twin, &mut twins));
+                best[at + 1] = best[at + 1].min(self.time(whole, Side::Rattle, &mut ours));
+                assert!(twins == ours, "{}: the two differ", self.name);
+                let done = ours.answers.iter().all(|&a| a == 0);
+                assert!(done, "{}: a step is not done", self.name);
+            }
+            rounds += 1;
+        }
+        best
+    }
+
+    fn time(&self, whole: bool, side: Side, buffers: &mut Buffers) -> f64 {
+        let steps = if whole { &self.whole } else { &self.before };
+        buffers.reset(&self.start, steps.len());
+        buffers.run(side, steps)
+    }
+
+    /// Takes note of what a pass measured.
+    pub fn note(&mut self, lists: Lists) {
+        for (best, time) in self.best.iter_mut().zip(lists) {
+            *best = best.min(time);
+        }
+    }
+
+    pub fn times(&self) -> Times {
+        let [twin, rattle, whole_twin, whole_rattle] = self.best;
+        Times {
+            twin: (whole_twin - twin) / self.per,
+            rattle: (whole_rattle - rattle) / self.per,
+        }
+    }
+
+    /// Runs one list on one side, to be looked at by a profiler.
+    pub fn replay(&self, side: Side, whole: bool, rounds: usize) {
+        let mut buffers = self.start.clone();
+        for _ in 0..rounds {
+            self.time(whole, side, &mut buffers);
+        }
+    }
+}

@@ -1,0 +1,38 @@
+-- The state of which the parts are lent: of a line its holder and its words' states, of an entry its thread and its word. No clause of a
+-- consistent state asks for more: the dirty flags and the values are false and 0 here, and the state is not lost.
+use Prim.Native.Nat.{ℕ}
+use mathlib.Core.Bool.{Bool, false}
+use mathlib.Core.List.{List}
+use lib.ListN.{getD}
+use Rattle.parts.specs.declared.Entry.{Entry}
+use Rattle.parts.specs.declared.Line.{Line}
+use Rattle.parts.specs.Listed.{listed}
+use Rattle.model.specs.Machine.{Machine}
+
+abbrev pub bareLine : ℕ → ℕ → Line
+bareLine holder states = record { holder = holder; dirty = false; states = states }
+
+abbrev pub bareEntry : ℕ → ℕ → Entry
+bareEntry thread word = record { thread = thread; word = word; undo = 0; redo = 0 }
+
+-- the first n lines, and the first n entries; past the last place they are zeros
+abbrev pub linesLent : ℕ → List ℕ → List ℕ → List Line
+linesLent n holders states = listed n (λ i. bareLine (getD holders i 0) (getD states i 0))
+
+abbrev pub entriesLent : ℕ → List ℕ → List ℕ → List Entry
+entriesLent n threads words = listed n (λ i. bareEntry (getD threads i 0) (getD words i 0))
+
+-- the state, of W words
+abbrev pub stateOf : ℕ → ℕ → ℕ → ℕ → List Bool → List Line → List Entry → List Entry → Machine
+stateOf words slots head tail opened lines undos redos =
+    record {
+      lost = false;
+      words = words;
+      slots = slots;
+      head = head;
+      tail = tail;
+      opened = opened;
+      lines = lines;
+      undoRedo = undos;
+      redo = redos;
+    }

@@ -1,0 +1,95 @@
+// The entries of the two buffers, and the words that they wait for.
+ghost use mathlib.Core.Path.{_≡_};
+ghost use mathlib.Core.List.{[], _∷_};
+ghost use Prim.Native.Nat.{_/_, _%_, _≤_, _<_};
+ghost use lib.ListN.{length};
+ghost use Rattle.consistency.specs.StateOf.{bareEntry, linesLent, entriesLent};
+ghost use Rattle.consistency.specs.Linear.{undosWait, redosWait, Walked};
+use crate::dirty_words::all_settled;
+
+// One entry waits for its word. If it does, the word gets the state `next`.
+fn waits(
+    words: u16,
+    holders: &[u8; 64],
+    states: &mut [u16; 64],
+    thread: u8,
+    word: u16,
+    wanted: u64,
+    next: u64,
+) -> bool
+    requires { ⌜ (words ≤ 512) × ((words % 8 ≡ 0) × ((length (now states) ≡ 64) × (next < 4))) ⌝ }
+    ensures { λ r. ⌜ Walked wanted next words (now (holders .entry)) (now (states .entry)) (bareEntry thread word ∷ []) r (now (states .exit)) ⌝ }
+{
+    if words <= word {
+        return false;
+    }
+    let at = (word / 8) as usize;
+    let place = (word % 8) as u64;
+    let line = states[at];
+    let found = parts::state_at(line, place) == wanted;
+    if !((thread < 8) & ((thread == holders[at]) & found)) {
+        return false;
+    }
+    states[at] = parts::with_state(line, place, next);
+    true
+}
+
+// Each entry waits for its word, and no two for the same.
+fn each_waits<'a>(
+    words: u16,
+    holders: &'a [u8; 64],
+    states: &mut [u16; 64],
+    count: usize,
+    threads: &'a [u8; 32],
+    targets: &'a [u16; 32],
+    wanted: u64,
+    next: u64,
+) -> bool
+    requires { ⌜ (words ≤ 512) × ((words % 8 ≡ 0) × ((length (now states) ≡ 64) × ((count ≤ 32) × (next < 4)))) ⌝ }
+    ensures { λ r. ⌜ Walked wanted next words (now (holders .entry)) (now (states .entry))
+        (entriesLent count (now (threads .entry)) (now (targets .entry))) r (now (states .exit)) ⌝ }
+{
+    let mut i = 0;
+    while i < count {
+        let thread = threads[i];
+        let word = targets[i];
+        if !waits(words, holders, states, thread, word, wanted, next) {
+            return false;
+        }
+        i += 1;
+    }
+    true
+}
+
+// The undo+redo entries wait for Dirty words, and none of these is without an entry.
+pub fn undos_wait<'a>(
+    words: u16,
+    holders: &'a [u8; 64],
+    mut states: [u16; 64],
+    count: usize,
+    threads: &'a [u8; 32],
+    targets: &'a [u16; 32],
+) -> bool
+    requires { ⌜ (words ≤ 512) × ((words % 8 ≡ 0) × (count ≤ 32)) ⌝ }
+    ensures { λ r. ⌜ r ≡ undosWait words (linesLent (words / 8) (now (holders .entry)) states)
+        (entriesLent count (now (threads .entry)) (now (targets .entry))) ⌝ }
+{
+    let each = each_waits(words, holders, &mut states, count, threads, targets, 1, 2);
+    each & all_settled((words / 8) as usize, &states)
+}
+
+// The redo entries wait for Clean words.
+pub fn redos_wait<'a>(
+    words: u16,
+    holders: &'a [u8; 64],
+    mut states: [u16; 64],
+    count: usize,
+    threads: &'a [u8; 32],
+    targets: &'a [u16; 32],
+) -> bool
+    requires { ⌜ (words ≤ 512) × ((words % 8 ≡ 0) × (count ≤ 32)) ⌝ }
+    ensures { λ r. ⌜ r ≡ redosWait words (linesLent (words / 8) (now (holders .entry)) states)
+        (entriesLent count (now (threads .entry)) (now (targets .entry))) ⌝ }
+{
+    each_waits(words, holders, &mut states, count, threads, targets, 0, 3)
+}

@@ -1,0 +1,39 @@
+-- `rukwetid_run` meets its contract: what `run` ensures, with the state left out.
+use borrow.Author.Needs.{needs}
+use mathlib.Core.Path.{ap}
+use Rattle.exports.specs.Exported.{exportOf}
+use Rattle.exports.proofs.rukwetid_run.Statement.{statement}
+use Rattle.exports.proofs.rukwetid_run.Tie as tie
+
+run-requires : tie.Need-run-requires
+run-requires c κs = search needs
+
+same-length : tie.Need-same-length
+same-length c = search needs
+
+same-length-2 : tie.Need-same-length-2
+same-length-2 c = search needs
+
+same-length-3 : tie.Need-same-length-3
+same-length-3 c = search needs
+
+same-length-4 : tie.Need-same-length-4
+same-length-4 c = search needs
+
+same-length-5 : tie.Need-same-length-5
+same-length-5 c = search needs
+
+returns : tie.Need-returns
+returns c = ap exportOf (c .before .before .before .before .before .before .before .before .before .before .run .ensures)
+
+pub rukwetid-run-spec : {M : Type 1} → statement M
+rukwetid-run-spec =
+    tie.close
+    (tie.spec
+    run-requires
+    same-length
+    same-length-2
+    same-length-3
+    same-length-4
+    same-length-5
+    returns)

@@ -1,0 +1,2 @@
+-- What the walks over lines and words hand back.
+pub mod Walks

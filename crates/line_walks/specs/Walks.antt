@@ -1,0 +1,49 @@
+-- What the walks over the lines, and over the words of a line, hand back on every input.
+use Prim.Native.Nat.{ℕ, _+_, _*_}
+use mathlib.Core.Bool.{Bool, cond, _&&_}
+use mathlib.Core.List.{List, [], _∷_, map}
+use lib.Dec.{eqb, leb, ltb}
+use lib.ListN.{length, getD, take}
+use Rattle.log.specs.Stores.{Store}
+use Rattle.parts.specs.declared.Entry.{Entry}
+use Rattle.parts.specs.declared.Buffer.{Buffer}
+use Rattle.parts.specs.declared.Line.{Line}
+use Rattle.parts.specs.declared.Lines.{Lines}
+use Rattle.parts.specs.Lines.{lineAt}
+use Rattle.parts.specs.States.{stateAt, ULog}
+use Rattle.parts.specs.Waiting.{waiting, added}
+use Rattle.model.specs.Lists.{keep, upTo}
+use Rattle.model.specs.Steps.{lineWrites, released}
+
+-- the k oldest entries of a buffer, or as many as wait; a buffer whose length is over 32, which no buffer has that was built here, gives none
+unfoldable pub oldest : ℕ → Buffer → List Entry
+oldest k b = cond (leb (b .len) 32) (take k (waiting b)) []
+
+-- word j of a line is ULog
+abbrev pub isULog : Line → ℕ → Bool
+isULog line j = eqb (stateAt (line .states) j) ULog
+
+-- the redo entry "of its working value for the line's holder", `first` being the line's first word
+abbrev pub ulogEntry : Line → List ℕ → ℕ → ℕ → Entry
+ulogEntry line working first j =
+    record { thread = line .holder; word = first + j; undo = 0; redo = getD working (first + j) 0 }
+
+-- "each ULog word, rising, adds a redo entry": those of a line whose eight words are there, among at most 512
+unfoldable pub ulogEntries : Line → List ℕ → ℕ → List Entry
+ulogEntries line working first =
+    cond (leb (first + 8) (length working) && leb (length working) 512)
+    (map (ulogEntry line working first) (keep (isULog line) (upTo 8)))
+    []
+
+-- entries added one after the other, while there is a place
+unfoldable pub addedAll : List Entry → List Entry → List Entry
+addedAll [] es = es
+addedAll (x ∷ xs) es = addedAll xs (added x es)
+
+-- "its 8 working words are stored, rising": those of a line that is there
+unfoldable pub lineStores : List ℕ → ℕ → List Store
+lineStores working line = cond (leb (8 * line + 8) (length working)) (lineWrites working line) []
+
+-- line i after the first n lines, or all of them, were released by thread t
+abbrev pub releasedAt : ℕ → ℕ → Lines → ℕ → Line
+releasedAt n t ls i = cond (ltb i n) (released t (lineAt ls i)) (lineAt ls i)

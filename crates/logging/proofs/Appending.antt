@@ -1,0 +1,79 @@
+-- Records appended to the log one after another under one supply.
+use Prim.Native.Nat.{ℕ, _+_, _-_, _<_}
+use mathlib.Core.Path.{_≡_, sym, ap, ap₂, _∙_}
+use mathlib.Core.List.{List, [], _∷_, _++_, map, append-nil, append-assoc, map-append}
+use native.Mathlib.Nat.{add-zero, sub-zero}
+use native.Mathlib.Omega.{arith}
+use lib.ListN.{length, take, length-append}
+use lib.Seq.{take-nil}
+use Rattle.log.specs.declared.Record.{Record}
+use Rattle.log.specs.Stores.{Store, stored, storedUnder}
+use Rattle.log.specs.Region.{slotsFor, slotsOf, recordStores, recordsStores}
+use Rattle.log.proofs.Stored.{length-stored, under-append}
+use Rattle.parts.specs.declared.Entry.{Entry}
+use Rattle.parts.specs.declared.Buffer.{Buffer}
+use Rattle.parts.specs.Waiting.{entryAt, waiting}
+use Rattle.parts.proofs.Oldest.{length-oldest, take-more}
+
+-- The log after the records rs were appended to it under a supply of c stores, the first of them as record n, and what is left of the supply.
+pub record Appended (c : ℕ) (before : List ℕ) (n : ℕ) (rs : List Record) (after : List ℕ) (rest : ℕ) : Type 0 where
+  pub left : rest ≡ c - length (recordsStores (slotsOf before) n rs)
+  pub log : after ≡ storedUnder c before (recordsStores (slotsOf before) n rs)
+
+-- the stores of records, and then of others
+stores-append : (l n : ℕ) (rs ss : List Record) → recordsStores l n (rs ++ ss) ≡ recordsStores l n rs ++ recordsStores l (n + length rs) ss
+unfolding recordsStores
+stores-append l n [] ss = ap (λ (k : ℕ). recordsStores l k ss) (sym (add-zero n))
+stores-append l n (r ∷ rs) ss =
+    let e : n + 1 + length rs ≡ n + length (r ∷ rs) = omega arith in
+    ap (λ (x : List Store). recordStores l n r ++ x)
+    (stores-append l (n + 1) rs ss ∙ ap (λ (k : ℕ). recordsStores l (n + 1) rs ++ recordsStores l k ss) e)
+    ∙ sym (append-assoc (recordStores l n r) (recordsStores l (n + 1) rs) (recordsStores l (n + length (r ∷ rs)) ss))
+
+-- a log keeps its length
+pub appended-length : {c n rest : ℕ} {before after : List ℕ} {rs : List Record} → Appended c before n rs after rest → length after ≡ length before
+appended-length {c} {n} {rest} {before} {after} {rs} a =
+    ap length (a .log) ∙ length-stored before (take c (recordsStores (slotsOf before) n rs))
+
+-- no record
+pub appended-none : (c : ℕ) (log : List ℕ) (n : ℕ) → Appended c log n [] log c
+unfolding recordsStores stored
+appended-none c log n = record { left = sym (sub-zero c); log = ap (stored log) (sym (take-nil c)) }
+
+-- one record
+pub appended-one : {c n rest : ℕ} {before after : List ℕ} (r : Record) → rest ≡ c - length (recordStores (slotsOf before) n r)
+    → after ≡ storedUnder c before (recordStores (slotsOf before) n r) → Appended c before n (r ∷ []) after rest
+unfolding recordsStores
+appended-one {c} {n} {rest} {before} {after} r left log =
+    let e : recordsStores (slotsOf before) n (r ∷ []) ≡ recordStores (slotsOf before) n r = append-nil (recordStores (slotsOf before) n r) in
+    record { left = rw e left; log = rw e log }
+
+-- records, and then others under what is left of the supply
+pub appended-then : {c n k rest : ℕ} {before between after : List ℕ} (rs ss : List Record) → Appended c before n rs between k
+    → Appended k between (n + length rs) ss after rest → Appended c before n (rs ++ ss) after rest
+appended-then {c} {n} {k} {rest} {before} {between} {after} rs ss first second =
+    let l : ℕ = slotsOf before in
+    let xs : List Store = recordsStores l n rs in
+    let ys : List Store = recordsStores l (n + length rs) ss in
+    let e : recordsStores l n (rs ++ ss) ≡ xs ++ ys = stores-append l n rs ss in
+    let same : slotsOf between ≡ l = ap slotsFor (appended-length first) in
+    let left : rest ≡ k - length ys = rw same at (second .left) in
+    let log : after ≡ storedUnder k between ys = rw same at (second .log) in
+    let more : length (xs ++ ys) ≡ length xs + length ys = length-append xs ys in
+    let k-left : k ≡ c - length xs = first .left in
+    record {
+      left = rw e (omega arith);
+      log = rw e (log ∙ ap₂ (λ (j : ℕ) (x : List ℕ). storedUnder j x ys) k-left (first .log) ∙ sym (under-append c before xs ys));
+    }
+
+-- the next of a buffer's oldest entries, f giving its record
+pub appended-more : {c n k rest : ℕ} {before between after : List ℕ} (f : Entry → Record) (b : Buffer) (i : ℕ) → i < b .len
+    → Appended c before n (map f (take i (waiting b))) between k
+    → rest ≡ k - length (recordStores (slotsOf between) (n + i) (f (entryAt b i)))
+    → after ≡ storedUnder k between (recordStores (slotsOf between) (n + i) (f (entryAt b i)))
+    → Appended c before n (map f (take (i + 1) (waiting b))) after rest
+appended-more {c} {n} {k} {rest} {before} {between} {after} f b i h first left log =
+    let rs : List Record = map f (take i (waiting b)) in
+    let size : length rs ≡ i = length-oldest f i b (omega arith) in
+    let one : Appended k between (n + length rs) (f (entryAt b i) ∷ []) after rest = rw size (appended-one (f (entryAt b i)) left log) in
+    rw (take-more b i h, map-append) (appended-then rs (f (entryAt b i) ∷ []) first one)

@@ -1,0 +1,145 @@
+// "Commit t: logs the whole undo+redo buffer, the whole redo buffer, then a redo record of the working value for each ULog word in lines
+// held by t, rising, then the commit record".
+ghost use mathlib.Core.Path.{_≡_};
+ghost use Prim.Native.Nat.{_+_, _-_, _*_, _≤_, _<_};
+ghost use lib.ListN.{length};
+ghost use Rattle.log.specs.Stores.{storedUnder};
+ghost use Rattle.log.specs.Region.{numbers, slotsOf, recordsStores};
+ghost use Rattle.parts.specs.Lines.{firstLines};
+ghost use Rattle.logging.specs.Newest.{newestWords, newestInLine, ulogWord, redosOf};
+ghost use Rattle.logging.specs.Progressed.{Progressed};
+ghost use Rattle.logging.specs.Records.{commitRecordsOf};
+use crate::NUMBERS;
+use crate::oldest::append_oldest;
+use log::Record;
+use parts::Buffer;
+use parts::Lines;
+
+// Where appending has come to: the number of the next record, and what is left of the supply.
+struct Progress {
+    number: u64,
+    left: u64,
+}
+
+// Appends a redo record of a word's working value, if the word is ULog.
+fn append_word(
+    log: &mut [u64],
+    working: &[u64],
+    thread: u8,
+    word: usize,
+    state: u64,
+    at: Progress,
+) -> Progress
+    requires { ⌜ (word < length (now working)) × ((word < 512) × (at .number < 2 * numbers)) ⌝ }
+    ensures { λ (r : Progress). ⌜ Progressed (at .left) (now (log .entry)) (at .number)
+        (redosOf (now (working .entry)) thread (ulogWord word state)) (now (log .exit)) (r .number) (r .left) ⌝ }
+{
+    if state != 3 {
+        return at;
+    }
+    let left = log::append(
+        log,
+        at.number,
+        Record::Redo {
+            thread: thread,
+            word: word as u16,
+            redo: working[word],
+        },
+        at.left,
+    );
+    Progress {
+        number: at.number + 1,
+        left: left,
+    }
+}
+
+// Appends those of line i, if the thread holds it.
+fn append_line(
+    log: &mut [u64],
+    working: &[u64],
+    thread: u8,
+    i: usize,
+    holder: u8,
+    states: u16,
+    at: Progress,
+) -> Progress
+    requires { ⌜ (8 * i + 8 ≤ length (now working)) × ((length (now working) ≤ 512) × (at .number + 8 ≤ 2 * numbers)) ⌝ }
+    ensures { λ (r : Progress). ⌜ Progressed (at .left) (now (log .entry)) (at .number)
+        (redosOf (now (working .entry)) thread (newestInLine thread i holder states 8)) (now (log .exit)) (r .number) (r .left) ⌝ }
+{
+    if holder != thread {
+        return at;
+    }
+    let mut next = at;
+    let mut j = 0;
+    while j < 8 {
+        let state = parts::state_at(states, j as u64);
+        next = append_word(log, working, thread, 8 * i + j, state, next);
+        j += 1;
+    }
+    next
+}
+
+// Appends those of the first n lines.
+fn append_newest(
+    log: &mut [u64],
+    working: &[u64],
+    thread: u8,
+    lines: Lines,
+    n: usize,
+    at: Progress,
+) -> Progress
+    requires { ⌜ (8 * n ≤ length (now working)) × ((length (now working) ≤ 512) × (at .number + 8 * n ≤ 2 * numbers)) ⌝ }
+    ensures { λ (r : Progress). ⌜ Progressed (at .left) (now (log .entry)) (at .number)
+        (redosOf (now (working .entry)) thread (newestWords (firstLines n lines) thread (8 * n))) (now (log .exit)) (r .number) (r .left) ⌝ }
+{
+    let mut next = at;
+    let mut i = 0;
+    while i < n {
+        next = append_line(
+            log,
+            working,
+            thread,
+            i,
+            lines.holders[i],
+            lines.states[i],
+            next,
+        );
+        i += 1;
+    }
+    next
+}
+
+// Appends all records of a thread's commit, the first as record `number`. W is the number of working words.
+pub fn append_commit(
+    log: &mut [u64],
+    working: &[u64],
+    number: u64,
+    undos: Buffer,
+    redos: Buffer,
+    lines: Lines,
+    thread: u8,
+    supply: u64,
+) -> u64
+    ensures { λ r. ⌜ r ≡ supply - length (recordsStores (slotsOf (now (log .entry))) number
+        (commitRecordsOf undos redos lines (now (working .entry)) thread)) ⌝ }
+    ensures { λ r. ⌜ now (log .exit) ≡ storedUnder supply (now (log .entry)) (recordsStores (slotsOf (now (log .entry))) number
+        (commitRecordsOf undos redos lines (now (working .entry)) thread)) ⌝ }
+{
+    let words = working.len();
+    let short = (undos.len <= 32) & (redos.len <= 32);
+    let fit = short & ((words <= 512) & (words % 8 == 0));
+    if (NUMBERS <= number) | !fit {
+        return supply;
+    }
+    let second = number + undos.len as u64;
+    let third = second + redos.len as u64;
+    let left = append_oldest(log, number, undos, undos.len, true, supply);
+    let rest = append_oldest(log, second, redos, redos.len, false, left);
+    let start = Progress {
+        number: third,
+        left: rest,
+    };
+    let end = append_newest(log, working, thread, lines, words / 8, start);
+    log::append(log, end.number, Record::Commit { thread: thread }, end.left)
+}

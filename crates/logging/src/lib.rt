@@ -1,0 +1,22 @@
+// What steps append to the log: the oldest entries of a buffer, and the records of a commit. Each function appends under the supply:
+// as many stores are made as it allows, and what is left of it is handed back.
+ghost use mathlib.Core.Path.{_≡_};
+ghost use Prim.Native.Nat.{min};
+
+mod commit;
+mod newest;
+mod oldest;
+
+pub use commit::append_commit;
+pub use newest::count_newest;
+pub use newest::count_ulog;
+pub use oldest::append_oldest;
+
+// Record numbers are below this.
+const NUMBERS: u64 = 0x1_0000_0000_0000;
+
+fn least(a: usize, b: usize) -> usize
+    ensures { λ r. ⌜ r ≡ min a b ⌝ }
+{
+    if a < b { a } else { b }
+}

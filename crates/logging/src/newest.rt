@@ -1,0 +1,52 @@
+// The ULog words: how many there are in a line, and in the lines that a thread holds.
+ghost use mathlib.Core.Path.{_≡_};
+ghost use Prim.Native.Nat.{ℕ, _*_, _≤_, min};
+ghost use lib.Dec.{eqb};
+ghost use lib.ListN.{length};
+ghost use Rattle.parts.specs.Lines.{firstLines};
+ghost use Rattle.parts.specs.States.{stateAt, ULog};
+ghost use Rattle.model.specs.Lists.{keep, upTo};
+ghost use Rattle.logging.specs.Newest.{newestWords, newestInLine};
+use crate::least;
+use parts::Lines;
+
+// How many words of a line are ULog, by the line's states.
+pub fn count_ulog(states: u16) -> usize
+    ensures { λ r. ⌜ r ≤ 8 ⌝ }
+    ensures { λ r. ⌜ r ≡ length (keep (λ j. eqb (stateAt states j) ULog) (upTo 8)) ⌝ }
+{
+    let mut count = 0;
+    let mut j = 0;
+    while j < 8 {
+        if parts::state_at(states, j) == 3 {
+            count += 1;
+        }
+        j += 1;
+    }
+    count
+}
+
+// The same of a line with this holder, if the thread holds it.
+fn count_line(holder: u8, states: u16, thread: u64) -> usize
+    ensures { λ r. ⌜ ((i : ℕ) → r ≡ length (newestInLine thread i holder states 8)) ⌝ }
+{
+    if holder as u64 == thread {
+        count_ulog(states)
+    } else {
+        0
+    }
+}
+
+// The number of ULog words in those of the first n lines that the thread holds. There are 64 lines at most.
+pub fn count_newest(lines: Lines, n: usize, thread: u64) -> usize
+    ensures { λ r. ⌜ r ≡ length (newestWords (firstLines (min n 64) lines) thread (8 * min n 64)) ⌝ }
+{
+    let end = least(n, 64);
+    let mut count = 0;
+    let mut i = 0;
+    while i < end {
+        count += count_line(lines.holders[i], lines.states[i], thread);
+        i += 1;
+    }
+    count
+}

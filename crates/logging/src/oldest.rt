@@ -1,0 +1,65 @@
+// The oldest entries of a buffer are logged.
+ghost use mathlib.Core.Path.{_≡_};
+ghost use Prim.Native.Nat.{_-_};
+ghost use lib.ListN.{length};
+ghost use Rattle.log.specs.Stores.{storedUnder};
+ghost use Rattle.log.specs.Region.{slotsOf, recordsStores};
+ghost use Rattle.logging.specs.Records.{entryRecord, oldestRecords};
+use crate::NUMBERS;
+use crate::least;
+use log::Record;
+use parts::Buffer;
+use parts::Entry;
+
+// The record of an entry: undo and redo, or the redo alone.
+fn record_of(entry: Entry, whole: bool) -> Record
+    ensures { λ r. ⌜ r ≡ entryRecord whole entry ⌝ }
+{
+    if whole {
+        Record::UndoRedo {
+            thread: entry.thread,
+            word: entry.word,
+            undo: entry.undo,
+            redo: entry.redo,
+        }
+    } else {
+        Record::Redo {
+            thread: entry.thread,
+            word: entry.word,
+            redo: entry.redo,
+        }
+    }
+}
+
+// Appends the records of the `count` oldest entries, the first as record `number`: whole ones of the undo+redo buffer, redo records of the
+// redo buffer.
+pub fn append_oldest(
+    log: &mut [u64],
+    number: u64,
+    entries: Buffer,
+    count: usize,
+    whole: bool,
+    supply: u64,
+) -> u64
+    ensures { λ r. ⌜ r ≡ supply - length (recordsStores (slotsOf (now (log .entry))) number (oldestRecords whole count entries)) ⌝ }
+    ensures { λ r. ⌜ now (log .exit)
+        ≡ storedUnder supply (now (log .entry)) (recordsStores (slotsOf (now (log .entry))) number (oldestRecords whole count entries)) ⌝ }
+{
+    if (NUMBERS <= number) | (32 < entries.len) {
+        return supply;
+    }
+    let end = least(count, entries.len);
+    let mut left = supply;
+    let mut i = 0;
+    while i < end {
+        let entry = Entry {
+            thread: entries.threads[i],
+            word: entries.words[i],
+            undo: entries.undos[i],
+            redo: entries.redos[i],
+        };
+        left = log::append(log, number + i as u64, record_of(entry, whole), left);
+        i += 1;
+    }
+    left
+}

@@ -1,0 +1,69 @@
+-- `commits::has_commit` meets its contract: at each turn the records from the number on have a commit just where all of them have one.
+use Prim.Native.Nat.{_-_}
+use mathlib.Core.Path.{_≡_, refl, _∙_, ap}
+use native.Mathlib.Omega.{arith}
+use borrow.Author.Needs.{needs}
+use Rattle.log.specs.Region.{readFrom}
+use Rattle.model.specs.Lists.{any}
+use Rattle.model.specs.Steps.{isCommitOf}
+use Rattle.recovery.proofs.ReadOn.{any-here, any-next, any-none}
+use Rattle.recovery.proofs.commits.has_commit.Statement.{statement}
+use Rattle.recovery.proofs.commits.has_commit.Tie as tie
+
+abbrev Inv-loop : tie.InvT-loop
+Inv-loop log from to words thread number₀ number =
+    any (isCommitOf thread) (readFrom (to - number) words log number) ≡ any (isCommitOf thread) (readFrom (to - from) words log from)
+
+abbrev μ-loop : tie.MeasureT-loop
+μ-loop log from to words thread number₀ number = to - number
+
+loop-holds : tie.Need-loop-holds Inv-loop μ-loop
+loop-holds c = refl
+
+read-requires : tie.Need-read-requires Inv-loop μ-loop
+read-requires c κs = search needs
+
+is-commit-of-requires : tie.Need-is-commit-of-requires Inv-loop μ-loop
+is-commit-of-requires c κs = search needs
+
+returns : tie.Need-returns Inv-loop μ-loop
+returns c =
+    let a = c .before .before .before .before .before .before .args in
+    any-here (isCommitOf (a .thread)) _ _ _ _ (c .before .before .before .loop-test .taken) _
+    (c .before .is-commit-of .ensures ∙ ap (isCommitOf (a .thread)) (c .before .before .read .ensures))
+    (c .if1 .taken)
+    ∙ c .before .before .before .before .loop .inv
+
+add-number : tie.Need-add-number Inv-loop μ-loop
+add-number c = omega arith
+
+loop-less : tie.Need-loop-less Inv-loop μ-loop
+loop-less c = omega arith
+
+loop-again : tie.Need-loop-again Inv-loop μ-loop
+loop-again c =
+    let a = c .before .before .before .before .before .before .args in
+    any-next (isCommitOf (a .thread)) _ _ _ _ (c .before .before .before .loop-test .taken) _
+    (c .before .is-commit-of .ensures ∙ ap (isCommitOf (a .thread)) (c .before .before .read .ensures))
+    (c .if1 .left)
+    ∙ c .before .before .before .before .loop .inv
+
+returns-2 : tie.Need-returns-2 Inv-loop μ-loop
+returns-2 c =
+    let a = c .before .before .before .args in
+    any-none (isCommitOf (a .thread)) _ _ _ _ (c .loop-test .left) ∙ c .before .loop .inv
+
+pub has-commit-spec : {M : Type 1} → statement M
+has-commit-spec =
+    tie.close
+    (tie.spec
+    Inv-loop
+    μ-loop
+    loop-holds
+    read-requires
+    is-commit-of-requires
+    returns
+    add-number
+    loop-less
+    loop-again
+    returns-2)

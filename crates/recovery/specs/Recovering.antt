@@ -1,0 +1,81 @@
+-- A replay as its code goes: one reading of the log, then a pass forward and a pass backward over the records read.
+use Prim.Native.Nat.{ℕ, _+_, _-_, _≤_, _<_}
+use mathlib.Core.Path.{_≡_}
+use mathlib.Core.Bool.{Bool, cond, _||_}
+use mathlib.Core.List.{List, [], _∷_}
+use lib.Dec.{ltb}
+use lib.ListN.{getD}
+use Rattle.log.specs.declared.Record.{Record}
+use Rattle.log.specs.declared.Record.the-variants.{UndoRedo, Redo, Commit}
+use Rattle.log.specs.declared.Reading.{Reading}
+use Rattle.log.specs.declared.Reading.the-variants.{Good, Bad}
+use Rattle.log.specs.Stores.{Store}
+use Rattle.log.specs.Layout.{threadOf}
+use Rattle.log.specs.Holding.{Valid}
+use Rattle.log.specs.Region.{headOf, tailOf, readBack, readFrom, recordsOf}
+use Rattle.model.specs.Lists.{any}
+use Rattle.model.specs.Steps.{isBad, isCommitOf}
+use Rattle.model.specs.Recovery.{closed, records}
+use Rattle.recovery.specs.declared.reading.Found.{Found}
+use Rattle.recovery.specs.declared.passes.Write.{Write}
+
+-- a record read back that is not bad has a thread and a word of the machine
+abbrev pub ValidIf : ℕ → Reading → Type 0
+ValidIf words (Good r) = Valid words r
+ValidIf words Bad = Unit {0}
+
+-- the records from a number up to the tail
+abbrev pub recordsFrom : ℕ → List ℕ → ℕ → ℕ → List Record
+recordsFrom words log n tail = records (readFrom (tail - n) words log n)
+
+-- a record numbered n of thread t is closed, by a number for each thread
+abbrev pub closedBy : List ℕ → ℕ → ℕ → Bool
+closedBy last n t = ltb n (getD last t 0)
+
+-- A number for each thread, that of its last commit: a record of the thread is closed just where its own number is below that.
+abbrev pub Lasts : ℕ → List ℕ → ℕ → ℕ → List ℕ → Type 0
+Lasts words log head tail last =
+    (t n : ℕ) → t < 8 → head ≤ n → n < tail → closedBy last n t ≡ closed t (recordsFrom words log (n + 1) tail)
+
+-- what is found after the next record is read
+pub record Noted (words : ℕ) (log : List ℕ) (found next : Found) : Type 0 where
+  pub tail : next .tail ≡ found .tail + 1
+  pub bad : next .bad ≡ (found .bad || isBad (readBack words log (found .tail)))
+  pub last : (t : ℕ) → t < 8
+      → getD (next .last) t 0 ≡ cond (isCommitOf t (readBack words log (found .tail))) (found .tail) (getD (found .last) t 0)
+
+-- what is found after all are read
+pub record Scanned (words : ℕ) (log : List ℕ) (found : Found) : Type 0 where
+  pub tail : found .tail ≡ tailOf log
+  pub order : headOf log ≤ found .tail
+  pub bad : found .bad ≡ any isBad (recordsOf words log)
+  pub last : Lasts words log (headOf log) (found .tail) (found .last)
+
+-- the store of a pass, if there is one
+abbrev pub writes : Write → List Store
+writes w = cond (w .made) (record { at = w .at; value = w .value } ∷ []) []
+
+-- the thread of a record read back; a bad one's is of no account
+abbrev pub threadRead : Reading → ℕ
+threadRead (Good r) = threadOf r
+threadRead Bad = 0
+
+-- what a record that was read stores in each pass, if it is closed and if it is not
+abbrev pub redoIf : Bool → Reading → List Store
+redoIf b (Good (UndoRedo t w u r)) = cond b (record { at = w; value = r } ∷ []) []
+redoIf b (Good (Redo t w r)) = cond b (record { at = w; value = r } ∷ []) []
+redoIf b (Good (Commit t)) = []
+redoIf b Bad = []
+
+abbrev pub undoIf : Bool → Reading → List Store
+undoIf b (Good (UndoRedo t w u r)) = cond b [] (record { at = w; value = u } ∷ [])
+undoIf b (Good (Redo t w r)) = []
+undoIf b (Good (Commit t)) = []
+undoIf b Bad = []
+
+-- the same, the threads whose records are closed being given
+abbrev pub redoRead : (ℕ → Bool) → Reading → List Store
+redoRead f x = redoIf (f (threadRead x)) x
+
+abbrev pub undoRead : (ℕ → Bool) → Reading → List Store
+undoRead f x = undoIf (f (threadRead x)) x

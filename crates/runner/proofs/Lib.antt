@@ -1,0 +1,4 @@
+-- Laws that the proofs of the functions share, and the proof of the claim.
+pub mod Apart
+pub mod StepsMade
+pub mod Claim

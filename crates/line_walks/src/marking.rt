@@ -1,34 +1,24 @@
 // The states of words replaced: "its word becomes URLog, as it does whenever such an entry is logged".
 ghost use mathlib.Core.Path.{_≡_};
-ghost use Prim.Native.Nat.{ℕ, _/_, _%_, _≤_, _<_};
+ghost use Prim.Native.Nat.{ℕ, _/_, _%_, _≤_};
 ghost use lib.ListN.{length, getD, set};
 ghost use Rattle.parts.specs.Lines.{firstLines};
 ghost use Rattle.parts.specs.States.{withState};
-ghost use Rattle.model.specs.Machine.{marked as markedIn, allLogged};
+ghost use Rattle.model.specs.Machine.{allLogged};
 ghost use Rattle.line_walks.specs.Walks.{oldest};
 use crate::least;
 use parts::Buffer;
 use parts::Lines;
 
-// The state of a word replaced, in the states of all lines. A word past the last line has none.
-fn set_state(states: &mut [u16; 64], word: u16, state: u64)
-    requires { ⌜ (state < 4) × (length (now states) ≡ 64) ⌝ }
-    ensures { λ _. ⌜ now (states .exit)
-        ≡ set (now (states .entry)) (word / 8) (withState (getD (now (states .entry)) (word / 8) 0) (word % 8) state) ⌝ }
+// The state of a word replaced, in the states of all 64 lines. There are four states; a word past the last line has none.
+pub fn mark(states: &mut [u16; 64], word: u16, state: u64)
+    ensures { λ _. ⌜ (length (now (states .entry)) ≡ 64 → now (states .exit)
+        ≡ set (now (states .entry)) (word / 8) (withState (getD (now (states .entry)) (word / 8) 0) (word % 8) (state % 4))) ⌝ }
 {
     let at = (word / 8) as usize;
     if at < 64 {
-        states[at] = parts::with_state(states[at], (word % 8) as u64, state);
+        states[at] = parts::with_state(states[at], (word % 8) as u64, state % 4);
     }
-}
-
-// The lines with the state of a word replaced. There are four states.
-pub fn mark(lines: Lines, word: u16, state: u64) -> Lines
-    ensures { λ (r : Lines). ⌜ ((n : ℕ) → n ≤ 64 → firstLines n r ≡ markedIn (state % 4) word (firstLines n lines)) ⌝ }
-{
-    let mut marked = lines;
-    set_state(&mut marked.states, word, state % 4);
-    marked
 }
 
 // The lines after the `count` oldest undo+redo entries are logged: their words become URLog.
@@ -42,7 +32,7 @@ pub fn all_logged(lines: Lines, entries: Buffer, count: usize) -> Lines
     let mut marked = lines;
     let mut i = 0;
     while i < end {
-        set_state(&mut marked.states, entries.words[i], 2);
+        mark(&mut marked.states, entries.words[i], 2);
         i += 1;
     }
     marked

@@ -1,15 +1,14 @@
 -- Records appended to the log one after another under one supply.
 use Prim.Native.Nat.{ℕ, _+_, _-_, _<_}
 use mathlib.Core.Path.{_≡_, sym, ap, ap₂, _∙_}
-use mathlib.Core.List.{List, [], _∷_, _++_, map, append-nil, append-assoc, map-append}
-use native.Mathlib.Nat.{add-zero, sub-zero}
+use mathlib.Core.List.{List, [], _∷_, _++_, map, map-append}
 use native.Mathlib.Omega.{arith}
 use lib.ListN.{length, take, length-append}
-use lib.Seq.{take-nil}
 use Rattle.log.specs.declared.Record.{Record}
-use Rattle.log.specs.Stores.{Store, stored, storedUnder}
+use Rattle.log.specs.Stores.{Store, storedUnder}
 use Rattle.log.specs.Region.{slotsFor, slotsOf, recordStores, recordsStores}
-use Rattle.log.proofs.Stored.{length-stored, under-append}
+use Rattle.log.proofs.Stored.{length-stored, under-append, under-none}
+use Rattle.log.proofs.Appending.{records-none, records-one, records-append}
 use Rattle.parts.specs.declared.Entry.{Entry}
 use Rattle.parts.specs.declared.Buffer.{Buffer}
 use Rattle.parts.specs.Waiting.{entryAt, waiting}
@@ -20,16 +19,6 @@ pub record Appended (c : ℕ) (before : List ℕ) (n : ℕ) (rs : List Record) (
   pub left : rest ≡ c - length (recordsStores (slotsOf before) n rs)
   pub log : after ≡ storedUnder c before (recordsStores (slotsOf before) n rs)
 
--- the stores of records, and then of others
-stores-append : (l n : ℕ) (rs ss : List Record) → recordsStores l n (rs ++ ss) ≡ recordsStores l n rs ++ recordsStores l (n + length rs) ss
-unfolding recordsStores
-stores-append l n [] ss = ap (λ (k : ℕ). recordsStores l k ss) (sym (add-zero n))
-stores-append l n (r ∷ rs) ss =
-    let e : n + 1 + length rs ≡ n + length (r ∷ rs) = omega arith in
-    ap (λ (x : List Store). recordStores l n r ++ x)
-    (stores-append l (n + 1) rs ss ∙ ap (λ (k : ℕ). recordsStores l (n + 1) rs ++ recordsStores l k ss) e)
-    ∙ sym (append-assoc (recordStores l n r) (recordsStores l (n + 1) rs) (recordsStores l (n + length (r ∷ rs)) ss))
-
 -- a log keeps its length
 pub appended-length : {c n rest : ℕ} {before after : List ℕ} {rs : List Record} → Appended c before n rs after rest → length after ≡ length before
 appended-length {c} {n} {rest} {before} {after} {rs} a =
@@ -37,15 +26,15 @@ appended-length {c} {n} {rest} {before} {after} {rs} a =
 
 -- no record
 pub appended-none : (c : ℕ) (log : List ℕ) (n : ℕ) → Appended c log n [] log c
-unfolding recordsStores stored
-appended-none c log n = record { left = sym (sub-zero c); log = ap (stored log) (sym (take-nil c)) }
+appended-none c log n =
+    let none = under-none c log (recordsStores (slotsOf log) n []) (records-none (slotsOf log) n) in
+    record { left = none .0; log = none .1 }
 
 -- one record
 pub appended-one : {c n rest : ℕ} {before after : List ℕ} (r : Record) → rest ≡ c - length (recordStores (slotsOf before) n r)
     → after ≡ storedUnder c before (recordStores (slotsOf before) n r) → Appended c before n (r ∷ []) after rest
-unfolding recordsStores
 appended-one {c} {n} {rest} {before} {after} r left log =
-    let e : recordsStores (slotsOf before) n (r ∷ []) ≡ recordStores (slotsOf before) n r = append-nil (recordStores (slotsOf before) n r) in
+    let e = records-one (slotsOf before) n r in
     record { left = rw e left; log = rw e log }
 
 -- records, and then others under what is left of the supply
@@ -55,7 +44,7 @@ appended-then {c} {n} {k} {rest} {before} {between} {after} rs ss first second =
     let l : ℕ = slotsOf before in
     let xs : List Store = recordsStores l n rs in
     let ys : List Store = recordsStores l (n + length rs) ss in
-    let e : recordsStores l n (rs ++ ss) ≡ xs ++ ys = stores-append l n rs ss in
+    let e : recordsStores l n (rs ++ ss) ≡ xs ++ ys = records-append l n rs ss in
     let same : slotsOf between ≡ l = ap slotsFor (appended-length first) in
     let left : rest ≡ k - length ys = rw same at (second .left) in
     let log : after ≡ storedUnder k between ys = rw same at (second .log) in

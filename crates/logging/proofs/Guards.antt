@@ -13,7 +13,7 @@ use Rattle.log.specs.declared.Record.{Record}
 use Rattle.log.specs.declared.Record.the-variants.{Commit}
 use Rattle.log.specs.Stores.{storedUnder}
 use Rattle.log.specs.Region.{numbers, slotsOf, recordsStores}
-use Rattle.log.proofs.Appending.{records-beyond}
+use Rattle.log.proofs.Appending.{records-none, records-beyond}
 use Rattle.parts.specs.declared.Entry.{Entry}
 use Rattle.parts.specs.declared.Buffer.{Buffer}
 use Rattle.parts.specs.declared.Lines.{Lines}
@@ -29,10 +29,9 @@ use Rattle.logging.proofs.Appending.{Appended}
 
 -- records that are none, or whose numbers are no record's, take no stores
 none-stored : (l n : ℕ) (rs : List Record) (t : Bool) → (leb numbers n || t) ≡ true → (t ≡ true → rs ≡ []) → recordsStores l n rs ≡ []
-unfolding recordsStores
 none-stored l n rs t e none =
     elim (decLt n numbers) [
-      | yes p ↦ rw (none (rw (lt-leb numbers n p) at e))
+      | yes p ↦ rw (none (rw (lt-leb numbers n p) at e)) (records-none l n)
       | no q ↦ records-beyond l n rs (omega arith)
     ]
 

@@ -1,15 +1,20 @@
 -- "each ULog word in lines held by t, rising", and its redo record.
 use Prim.Native.Nat.{ℕ, _+_, _*_}
-use mathlib.Core.Bool.{cond, _&&_}
+use mathlib.Core.Bool.{Bool, cond, _&&_}
 use mathlib.Core.List.{List, [], _∷_, map}
 use lib.Dec.{eqb}
 use lib.ListN.{getD}
 use Rattle.log.specs.declared.Record.{Record}
 use Rattle.log.specs.declared.Record.the-variants.{Redo}
 use Rattle.parts.specs.declared.Line.{Line}
+use Rattle.parts.specs.declared.Lines.{Lines}
 use Rattle.parts.specs.States.{stateAt, ULog}
 use Rattle.model.specs.Lists.{keep, upTo}
 use Rattle.model.specs.Machine.{stateIn, holderIn}
+
+-- the lines, by their fields
+abbrev pub linesOf : List ℕ → List Bool → List ℕ → Lines
+linesOf holders dirty states = record { holders = holders; dirty = dirty; states = states }
 
 -- those among the first n words
 unfoldable pub newestWords : List Line → ℕ → ℕ → List ℕ

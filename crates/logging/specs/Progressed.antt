@@ -13,3 +13,8 @@ pub record Progressed (c : ℕ) (before : List ℕ) (n : ℕ) (rs : List Record)
   pub number : next ≡ n + length rs
   pub left : rest ≡ c - length (recordsStores (slotsOf before) n rs)
   pub log : after ≡ storedUnder c before (recordsStores (slotsOf before) n rs)
+
+-- The same without the number.
+abbrev pub Stored : ℕ → List ℕ → ℕ → List Record → List ℕ → ℕ → Type 0
+Stored c before n rs after rest =
+    (rest ≡ c - length (recordsStores (slotsOf before) n rs)) × (after ≡ storedUnder c before (recordsStores (slotsOf before) n rs))

@@ -14,6 +14,11 @@ use Rattle.parts.specs.Lines.{firstLines}
 use Rattle.model.specs.Steps.{undoRedoRecord, redoRecord}
 use Rattle.logging.specs.Newest.{newestWords, redosOf}
 
+-- a buffer, by its fields
+abbrev pub bufferOf : ℕ → List ℕ → List ℕ → List ℕ → List ℕ → Buffer
+bufferOf len threads words undos redos =
+    record { len = len; threads = threads; words = words; undos = undos; redos = redos }
+
 -- the record of an entry: undo and redo, or the redo alone
 abbrev pub entryRecord : Bool → Entry → Record
 entryRecord true e = undoRedoRecord e

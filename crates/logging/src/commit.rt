@@ -1,19 +1,17 @@
 // "Commit t: logs the whole undo+redo buffer, the whole redo buffer, then a redo record of the working value for each ULog word in lines
 // held by t, rising, then the commit record".
-ghost use mathlib.Core.Path.{_≡_};
-ghost use Prim.Native.Nat.{_+_, _-_, _*_, _≤_, _<_};
+ghost use mathlib.Core.Bool.{Bool};
+ghost use mathlib.Core.List.{List};
+ghost use Prim.Native.Nat.{_+_, _*_, _≤_, _<_};
 ghost use lib.ListN.{length};
-ghost use Rattle.log.specs.Stores.{storedUnder};
-ghost use Rattle.log.specs.Region.{numbers, slotsOf, recordsStores};
+ghost use Rattle.log.specs.Region.{numbers};
 ghost use Rattle.parts.specs.Lines.{firstLines};
-ghost use Rattle.logging.specs.Newest.{newestWords, newestInLine, ulogWord, redosOf};
-ghost use Rattle.logging.specs.Progressed.{Progressed};
-ghost use Rattle.logging.specs.Records.{commitRecordsOf};
+ghost use Rattle.logging.specs.Newest.{linesOf, newestWords, newestInLine, ulogWord, redosOf};
+ghost use Rattle.logging.specs.Progressed.{Progressed, Stored};
+ghost use Rattle.logging.specs.Records.{bufferOf, commitRecordsOf};
 use crate::NUMBERS;
-use crate::oldest::append_oldest;
+use crate::oldest::append_entries;
 use log::Record;
-use parts::Buffer;
-use parts::Lines;
 
 // Where appending has come to: the number of the next record, and what is left of the supply.
 struct Progress {
@@ -81,65 +79,91 @@ fn append_line(
 }
 
 // Appends those of the first n lines.
-fn append_newest(
+fn append_newest<'a>(
     log: &mut [u64],
     working: &[u64],
     thread: u8,
-    lines: Lines,
+    holders: &'a [u8; 64],
+    states: &'a [u16; 64],
     n: usize,
     at: Progress,
 ) -> Progress
     requires { ⌜ (8 * n ≤ length (now working)) × ((length (now working) ≤ 512) × (at .number + 8 * n ≤ 2 * numbers)) ⌝ }
-    ensures { λ (r : Progress). ⌜ Progressed (at .left) (now (log .entry)) (at .number)
-        (redosOf (now (working .entry)) thread (newestWords (firstLines n lines) thread (8 * n))) (now (log .exit)) (r .number) (r .left) ⌝ }
+    ensures { λ (r : Progress). ⌜ ((dirty : List Bool) → Progressed (at .left) (now (log .entry)) (at .number)
+        (redosOf (now (working .entry)) thread (newestWords (firstLines n (linesOf (now (holders .entry)) dirty (now (states .entry)))) thread (8 * n)))
+        (now (log .exit)) (r .number) (r .left)) ⌝ }
 {
     let mut next = at;
     let mut i = 0;
     while i < n {
-        next = append_line(
-            log,
-            working,
-            thread,
-            i,
-            lines.holders[i],
-            lines.states[i],
-            next,
-        );
+        next = append_line(log, working, thread, i, holders[i], states[i], next);
         i += 1;
     }
     next
 }
 
-// Appends all records of a thread's commit, the first as record `number`. W is the number of working words.
-pub fn append_commit(
+// Appends all records of a thread's commit, the first as record `number`. W is the number of working words. The two buffers are lent by
+// their fields, `undos` and `redos` being their lengths, and the lines by theirs.
+pub fn append_commit<'a>(
     log: &mut [u64],
     working: &[u64],
     number: u64,
-    undos: Buffer,
-    redos: Buffer,
-    lines: Lines,
+    undos: usize,
+    undo_threads: &'a [u8; 32],
+    undo_words: &'a [u16; 32],
+    undo_undos: &'a [u64; 32],
+    undo_redos: &'a [u64; 32],
+    redos: usize,
+    redo_threads: &'a [u8; 32],
+    redo_words: &'a [u16; 32],
+    redo_undos: &'a [u64; 32],
+    redo_redos: &'a [u64; 32],
+    holders: &'a [u8; 64],
+    states: &'a [u16; 64],
     thread: u8,
     supply: u64,
 ) -> u64
-    ensures { λ r. ⌜ r ≡ supply - length (recordsStores (slotsOf (now (log .entry))) number
-        (commitRecordsOf undos redos lines (now (working .entry)) thread)) ⌝ }
-    ensures { λ r. ⌜ now (log .exit) ≡ storedUnder supply (now (log .entry)) (recordsStores (slotsOf (now (log .entry))) number
-        (commitRecordsOf undos redos lines (now (working .entry)) thread)) ⌝ }
+    ensures { λ r. ⌜ ((dirty : List Bool) → Stored supply (now (log .entry)) number (commitRecordsOf
+        (bufferOf undos (now («undo_threads» .entry)) (now («undo_words» .entry)) (now («undo_undos» .entry)) (now («undo_redos» .entry)))
+        (bufferOf redos (now («redo_threads» .entry)) (now («redo_words» .entry)) (now («redo_undos» .entry)) (now («redo_redos» .entry)))
+        (linesOf (now (holders .entry)) dirty (now (states .entry))) (now (working .entry)) thread) (now (log .exit)) r) ⌝ }
 {
     let words = working.len();
-    let short = (undos.len <= 32) & (redos.len <= 32);
+    let short = (undos <= 32) & (redos <= 32);
     let fit = short & ((words <= 512) & (words % 8 == 0));
     if (NUMBERS <= number) | !fit {
         return supply;
     }
-    let second = number + undos.len as u64;
-    let third = second + redos.len as u64;
-    let left = append_oldest(log, number, undos, undos.len, true, supply);
-    let rest = append_oldest(log, second, redos, redos.len, false, left);
+    let second = number + undos as u64;
+    let third = second + redos as u64;
+    let left = append_entries(
+        log,
+        number,
+        undos,
+        undo_threads,
+        undo_words,
+        undo_undos,
+        undo_redos,
+        undos,
+        true,
+        supply,
+    );
+    let rest = append_entries(
+        log,
+        second,
+        redos,
+        redo_threads,
+        redo_words,
+        redo_undos,
+        redo_redos,
+        redos,
+        false,
+        left,
+    );
     let start = Progress {
         number: third,
         left: rest,
     };
-    let end = append_newest(log, working, thread, lines, words / 8, start);
+    let end = append_newest(log, working, thread, holders, states, words / 8, start);
     log::append(log, end.number, Record::Commit { thread: thread }, end.left)
 }

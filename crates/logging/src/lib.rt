@@ -10,6 +10,7 @@ mod oldest;
 pub use commit::append_commit;
 pub use newest::count_newest;
 pub use newest::count_ulog;
+pub use oldest::append_entries;
 pub use oldest::append_oldest;
 
 // Record numbers are below this.

@@ -1,14 +1,15 @@
 // The ULog words: how many there are in a line, and in the lines that a thread holds.
 ghost use mathlib.Core.Path.{_≡_};
+ghost use mathlib.Core.Bool.{Bool};
+ghost use mathlib.Core.List.{List};
 ghost use Prim.Native.Nat.{ℕ, _*_, _≤_, min};
 ghost use lib.Dec.{eqb};
 ghost use lib.ListN.{length};
 ghost use Rattle.parts.specs.Lines.{firstLines};
 ghost use Rattle.parts.specs.States.{stateAt, ULog};
 ghost use Rattle.model.specs.Lists.{keep, upTo};
-ghost use Rattle.logging.specs.Newest.{newestWords, newestInLine};
+ghost use Rattle.logging.specs.Newest.{linesOf, newestWords, newestInLine};
 use crate::least;
-use parts::Lines;
 
 // How many words of a line are ULog, by the line's states.
 pub fn count_ulog(states: u16) -> usize
@@ -38,14 +39,20 @@ fn count_line(holder: u8, states: u16, thread: u64) -> usize
 }
 
 // The number of ULog words in those of the first n lines that the thread holds. There are 64 lines at most.
-pub fn count_newest(lines: Lines, n: usize, thread: u64) -> usize
-    ensures { λ r. ⌜ r ≡ length (newestWords (firstLines (min n 64) lines) thread (8 * min n 64)) ⌝ }
+pub fn count_newest<'a>(
+    holders: &'a [u8; 64],
+    states: &'a [u16; 64],
+    n: usize,
+    thread: u64,
+) -> usize
+    ensures { λ r. ⌜ ((dirty : List Bool) → r
+        ≡ length (newestWords (firstLines (min n 64) (linesOf (now (holders .entry)) dirty (now (states .entry)))) thread (8 * min n 64))) ⌝ }
 {
     let end = least(n, 64);
     let mut count = 0;
     let mut i = 0;
     while i < end {
-        count += count_line(lines.holders[i], lines.states[i], thread);
+        count += count_line(holders[i], states[i], thread);
         i += 1;
     }
     count

@@ -4,7 +4,8 @@ ghost use Prim.Native.Nat.{_-_};
 ghost use lib.ListN.{length};
 ghost use Rattle.log.specs.Stores.{storedUnder};
 ghost use Rattle.log.specs.Region.{slotsOf, recordsStores};
-ghost use Rattle.logging.specs.Records.{entryRecord, oldestRecords};
+ghost use Rattle.logging.specs.Progressed.{Stored};
+ghost use Rattle.logging.specs.Records.{bufferOf, entryRecord, oldestRecords};
 use crate::NUMBERS;
 use crate::least;
 use log::Record;
@@ -31,8 +32,43 @@ fn record_of(entry: Entry, whole: bool) -> Record
     }
 }
 
-// Appends the records of the `count` oldest entries, the first as record `number`: whole ones of the undo+redo buffer, redo records of the
-// redo buffer.
+// Appends the records of the `count` oldest entries of a buffer, the first as record `number`: whole ones of the undo+redo buffer, redo
+// records of the redo buffer. The buffer is lent by its fields.
+pub fn append_entries<'a>(
+    log: &mut [u64],
+    number: u64,
+    len: usize,
+    threads: &'a [u8; 32],
+    words: &'a [u16; 32],
+    undos: &'a [u64; 32],
+    redos: &'a [u64; 32],
+    count: usize,
+    whole: bool,
+    supply: u64,
+) -> u64
+    ensures { λ r. ⌜ Stored supply (now (log .entry)) number (oldestRecords whole count
+        (bufferOf len (now (threads .entry)) (now (words .entry)) (now (undos .entry)) (now (redos .entry)))) (now (log .exit)) r ⌝ }
+{
+    if (NUMBERS <= number) | (32 < len) {
+        return supply;
+    }
+    let end = least(count, len);
+    let mut left = supply;
+    let mut i = 0;
+    while i < end {
+        let entry = Entry {
+            thread: threads[i],
+            word: words[i],
+            undo: undos[i],
+            redo: redos[i],
+        };
+        left = log::append(log, number + i as u64, record_of(entry, whole), left);
+        i += 1;
+    }
+    left
+}
+
+// The same of a buffer by value.
 pub fn append_oldest(
     log: &mut [u64],
     number: u64,
@@ -45,21 +81,16 @@ pub fn append_oldest(
     ensures { λ r. ⌜ now (log .exit)
         ≡ storedUnder supply (now (log .entry)) (recordsStores (slotsOf (now (log .entry))) number (oldestRecords whole count entries)) ⌝ }
 {
-    if (NUMBERS <= number) | (32 < entries.len) {
-        return supply;
-    }
-    let end = least(count, entries.len);
-    let mut left = supply;
-    let mut i = 0;
-    while i < end {
-        let entry = Entry {
-            thread: entries.threads[i],
-            word: entries.words[i],
-            undo: entries.undos[i],
-            redo: entries.redos[i],
-        };
-        left = log::append(log, number + i as u64, record_of(entry, whole), left);
-        i += 1;
-    }
-    left
+    append_entries(
+        log,
+        number,
+        entries.len,
+        &entries.threads,
+        &entries.words,
+        &entries.undos,
+        &entries.redos,
+        count,
+        whole,
+        supply,
+    )
 }

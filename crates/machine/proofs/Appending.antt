@@ -8,11 +8,11 @@ use native.Mathlib.Omega.{arith}
 use borrow.Author.Tests.{ltb-false, lt-ltb}
 use lib.Dec.{ltb}
 use lib.ListN.{length, take, replicate}
-use lib.Seq.{take-nil}
 use Rattle.log.specs.declared.Record.{Record}
 use Rattle.log.specs.Stores.{Store, stored}
 use Rattle.log.specs.Region.{numbers, slotsOf, recordsStores}
 use Rattle.log.specs.Holding.{Every}
+use Rattle.log.proofs.Stored.{under-none}
 use Rattle.log.proofs.Appending.{size-of-records}
 use Rattle.model.specs.Machine.{Machine, Memory, lostMachine}
 use Rattle.model.specs.Plan.{append, planned}
@@ -35,8 +35,7 @@ room m (r ∷ records) h e =
 
 -- with no stores to home, it is as it was
 untouched : (c : ℕ) (home : List ℕ) → home ≡ stored home (take c [])
-unfolding stored
-untouched c home = rw take-nil
+untouched c home = under-none c home [] refl .1
 
 -- What a step hands back that only appends records, once it is not refused: `rows` are its refusals.
 module _ (s : Step) (c : ℕ) (m : Machine) (mem : Memory) (rows : List Row) (records : List Record) (next : Machine) (working : List ℕ)

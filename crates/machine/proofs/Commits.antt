@@ -1,38 +1,40 @@
 -- What a commit logs, what it hands back, and the state after it.
 use Prim.Native.Nat.{ℕ, _+_, _-_, _*_, _/_, _%_, _≤_, _<_, min}
 use mathlib.Core.Path.{_≡_, refl, sym, _∙_, ap}
-use mathlib.Core.Bool.{false, cond, _&&_, not}
-use mathlib.Core.List.{List, [], _∷_, _++_, map}
+use mathlib.Core.Bool.{Bool, false, cond, _&&_, not}
+use mathlib.Core.List.{List, _∷_, _++_, map}
 use native.Mathlib.Omega.{arith}
 use native.Mathlib.Decide.{decLt}
 use borrow.Author.Tests.{lt-ltb, ltb-false}
 use lib.Dec.{ltb}
-use lib.ListN.{length, getD, set, replicate, length-append, length-map}
+use lib.ListN.{length, getD, set, take, replicate, length-append, length-map}
+use lib.Seq.{take-all, drop-length}
 use Rattle.log.specs.declared.Record.{Record}
 use Rattle.log.specs.Stores.{Store, storedUnder}
 use Rattle.log.specs.Region.{numbers, slotsOf, recordsStores}
 use Rattle.log.specs.Holding.{Every}
 use Rattle.log.proofs.Holding.{every-append}
-use Rattle.parts.specs.declared.Buffer.{Buffer}
 use Rattle.parts.specs.declared.Lines.{Lines}
+use Rattle.parts.specs.Listed.{listed}
 use Rattle.parts.specs.Lines.{firstLines}
 use Rattle.parts.specs.Waiting.{entryAt, waiting}
 use Rattle.parts.proofs.Listed.{length-listed}
-use Rattle.model.specs.Machine.{Machine, Memory, lostMachine, freeSlots}
+use Rattle.parts.proofs.Waiting.{withLength}
+use Rattle.model.specs.Machine.{Machine, Memory, lostMachine, allLogged}
 use Rattle.model.specs.Plan.{append, planned}
 use Rattle.model.specs.Refusals.{Row, unless, numberOf, common, unknownThread, notOpen, noRoom}
-use Rattle.model.specs.Steps.{newestRedos, commitRecords, undosLogged, released, commitPlan}
+use Rattle.model.specs.Steps.{newestRedos, commitRecords, released, commitPlan}
 use Rattle.model.specs.Step.{commit, planOf, stepped}
 use Rattle.model.proofs.Fit.{Fit, fit}
 use Rattle.model.proofs.Outcomes.{none-apply, outcome-refused}
-use Rattle.logging.specs.Newest.{newestWords}
+use Rattle.logging.specs.Newest.{linesOf, newestWords}
 use Rattle.logging.specs.Records.{commitRecordsOf}
 use Rattle.logging.proofs.Appending.{Appended}
 use Rattle.logging.proofs.Guards.{commit-of}
 use Rattle.machine.specs.declared.State.{State}
 use Rattle.machine.specs.declared.Answer.{Answer}
 use Rattle.machine.specs.View.{view, memory, shown}
-use Rattle.machine.specs.Committing.{committedBy}
+use Rattle.machine.specs.Committing.{HasEntries, HasLog, committedBy}
 use Rattle.machine.proofs.Outcome.{width}
 use Rattle.machine.proofs.Refused.{passed, refused-first, refused-then}
 use Rattle.machine.proofs.Appending.{room, append-done, append-cut}
@@ -45,13 +47,16 @@ unfolding commitRecords newestRedos newestWords
 commit-size m mem t = simp (length-append, length-map)
 
 -- the same of a state, by what the code counts
-pub commit-count : (s : State) (mem : Memory) (t r : ℕ) → s .words ≤ 512 → s .words % 8 ≡ 0
-    → r ≡ length (newestWords (firstLines (min (s .words / 8) 64) (s .lines)) t (8 * min (s .words / 8) 64))
-    → s .undos .len + s .redos .len + r + 1 ≡ length (commitRecords (view s) mem t)
-commit-count s mem t r most round e =
-    let n : min (s .words / 8) 64 ≡ s .words / 8 = omega arith in
-    let w : 8 * (s .words / 8) ≡ s .words = omega arith in
-    let newest : r ≡ length (newestWords (firstLines (s .words / 8) (s .lines)) t (s .words)) = rw (n, w) at e in
+pub commit-count : (us rs w : ℕ) (hs ss : List ℕ) (s : State) (mem : Memory) (t r : ℕ) → HasEntries us rs w hs ss s → w ≤ 512 → w % 8 ≡ 0
+    → ((dirty : List Bool) → r ≡ length (newestWords (firstLines (min (w / 8) 64) (linesOf hs dirty ss)) t (8 * min (w / 8) 64)))
+    → us + rs + r + 1 ≡ length (commitRecords (view s) mem t)
+commit-count us rs w hs ss s mem t r has most round e =
+    let n : min (w / 8) 64 ≡ w / 8 = omega arith in
+    let v : 8 * (w / 8) ≡ w = omega arith in
+    let newest : r ≡ length (newestWords (firstLines (s .words / 8) (s .lines)) t (s .words)) =
+    rw (has .words, has .holders, has .states) (rw (n, v) at (e (s .lines .dirty))) in
+    let undos = has .undos in
+    let redos = has .redos in
     omega (
       arith,
       commit-size (view s) mem t,
@@ -60,60 +65,40 @@ commit-count s mem t r most round e =
     )
 
 -- the rows after the common ones, by what the code tests
-pub commit-number : (s : State) (t count : ℕ) (rs : List Record) → count ≡ length rs
-    → cond (ltb 7 t) 4
-    (cond (not (getD (s .opened) (t % 8) false)) 6
-    (cond (ltb (freeSlots (view s)) count) 10 (cond (ltb 0 count && ltb numbers (s .tail + count)) 11 0)))
-    ≡ numberOf (unknownThread t ∷ notOpen (view s) t ∷ noRoom (view s) rs)
+pub commit-number : (b : Bool) (l h n t count : ℕ) (m : Machine) (rs : List Record) → HasLog b l h n t m → count ≡ length rs
+    → cond (ltb 7 t) 4 (cond (not b) 6 (cond (ltb (l - (n - h)) count) 10 (cond (ltb 0 count && ltb numbers (n + count)) 11 0)))
+    ≡ numberOf (unknownThread t ∷ notOpen m t ∷ noRoom m rs)
 unfolding numberOf
-commit-number s t count rs e =
+commit-number b l h n t count m rs has e =
     elim (decLt 7 t) [
       | yes p ↦ rw (lt-ltb 7 t p)
-      | no q ↦ let small : t % 8 ≡ t = omega arith in rw (small, e)
+      | no q ↦
+          let small : t % 8 ≡ t = omega arith in
+          let opened : getD (m .opened) t false ≡ b = rw small at (has .opened) in
+          rw (opened, has .slots, has .head, has .tail, e)
     ]
 
--- two states are equal, if their parts are
-machine-eq : (a b : Machine) → a .lost ≡ b .lost → a .words ≡ b .words → a .slots ≡ b .slots → a .head ≡ b .head → a .tail ≡ b .tail
-    → a .opened ≡ b .opened → a .lines ≡ b .lines → a .undoRedo ≡ b .undoRedo → a .redo ≡ b .redo → a ≡ b
-machine-eq a b lost words slots head tail opened lines undoRedo redo =
-    λ i. record {
-      lost = lost i;
-      words = words i;
-      slots = slots i;
-      head = head i;
-      tail = tail i;
-      opened = opened i;
-      lines = lines i;
-      undoRedo = undoRedo i;
-      redo = redo i;
-    }
-
--- the state after a commit, by what the code sets
-pub commit-next : (s logged : State) (free : Lines) (none : Buffer) (t count : ℕ) → view logged ≡ undosLogged (s .undos .len) (view s)
-    → firstLines (s .words / 8) free ≡ map (released t) (firstLines (s .words / 8) (logged .lines)) → waiting none ≡ []
+-- the state after a commit, by what the code sets: the lengths of the buffers, and the lines
+pub commit-next : (s : State) (free : Lines) (t count : ℕ)
+    → firstLines (s .words / 8) free ≡ map (released t) (allLogged (waiting (s .undos)) (firstLines (s .words / 8) (s .lines)))
     → view
     (record {
-      lost = logged .lost;
-      words = logged .words;
-      slots = logged .slots;
-      head = logged .head;
+      lost = s .lost;
+      words = s .words;
+      slots = s .slots;
+      head = s .head;
       tail = s .tail + count;
-      opened = set (logged .opened) t false;
+      opened = set (s .opened) t false;
       lines = free;
-      undos = logged .undos;
-      redos = none;
+      undos = withLength (s .undos) 0;
+      redos = withLength (s .redos) 0;
     })
     ≡ committedBy t count (view s)
-unfolding committedBy
-commit-next s logged free none t count e freed empty =
-    let k : length (waiting (s .undos)) ≡ s .undos .len = length-listed (s .undos .len) (entryAt (s .undos)) in
-    let f : view logged ≡ undosLogged (length (waiting (s .undos))) (view s) = rw k e in
-    let words : logged .words ≡ s .words = ap (λ (m : Machine). m .words) f in
-    let lines : firstLines (s .words / 8) (logged .lines) ≡ undosLogged (length (waiting (s .undos))) (view s) .lines =
-    rw words at (ap (λ (m : Machine). m .lines) f) in
-    machine-eq _ (committedBy t count (view s)) (ap (λ (m : Machine). m .lost) f) words (ap (λ (m : Machine). m .slots) f)
-    (ap (λ (m : Machine). m .head) f) refl (ap (λ (m : Machine). set (m .opened) t false) f)
-    (ap (λ (n : ℕ). firstLines (n / 8) free) words ∙ freed ∙ ap (map (released t)) lines) (ap (λ (m : Machine). m .undoRedo) f) empty
+unfolding committedBy listed
+commit-next s free t count freed =
+    let all : take (length (waiting (s .undos))) (waiting (s .undos)) ≡ waiting (s .undos) =
+    take-all (length (waiting (s .undos))) (waiting (s .undos)) (omega arith) in
+    rw (all, drop-length, freed)
 
 -- the sizes of a state that no common row refuses
 pub record Sizes (s : State) : Type 0 where

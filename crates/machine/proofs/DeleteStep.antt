@@ -5,15 +5,16 @@ use mathlib.Core.Bool.{Bool, false, cond}
 use mathlib.Core.List.{List, [], _∷_, _++_}
 use native.Mathlib.Nat.{sub-zero}
 use native.Mathlib.Omega.{arith}
-use borrow.Author.Tests.{lt-ltb, eq-eqb, ne-eqb}
+use borrow.Author.Tests.{eq-eqb, ne-eqb}
 use lib.ListN.{length, take, replicate}
-use lib.Seq.{take-nil}
 use Rattle.log.specs.declared.Record.{Record}
 use Rattle.log.specs.declared.Reading.{Reading}
 use Rattle.log.specs.declared.Reading.the-variants.{Good}
 use Rattle.log.specs.Stores.{Store, stored, storedUnder}
 use Rattle.log.specs.Region.{slotsOf, headStores}
 use Rattle.log.specs.Holding.{Every}
+use Rattle.log.proofs.Stored.{under-none}
+use Rattle.log.proofs.Holding.{size-of-head}
 use Rattle.model.specs.Machine.{Machine, Memory, lostMachine, withHead}
 use Rattle.model.specs.Plan.{Op, setHead, putsOf, planned, Outcome}
 use Rattle.model.specs.Refusals.{Row, numberOf, unless, common}
@@ -91,13 +92,12 @@ module _ (c : ℕ) (m : Machine) (mem : Memory) where
     made = puts-head (slotsOf (mem .log)) (m .tail) (m .head + 1)
 
     one : length stores ≡ 1
-    unfolding stores headStores
-    one = let f = fits-all in let k = f .clauses in rw (f .slots, lt-ltb 0 (m .slots) (omega arith))
+    unfolding stores
+    one = let f = fits-all in let e = f .slots in let k = f .clauses in size-of-head (slotsOf (mem .log)) (m .head + 1) (omega arith)
 
     -- what is stored under the supply
     home-same : (mem .home) ≡ stored (mem .home) (take c [])
-    unfolding stored
-    home-same = rw take-nil
+    home-same = under-none c (mem .home) [] refl .1
 
     log-same : storedUnder c (mem .log) stores ≡ stored (mem .log) (take (c - 0) stores)
     log-same = rw sub-zero

@@ -1,18 +1,27 @@
 -- A store's parts: the entry that is logged first, what is filed by the word's state, and the state after them.
-use Prim.Native.Nat.{ℕ, zero, suc, _+_, _-_, _/_, _≤_}
-use mathlib.Core.Path.{_≡_, refl, sym, _∙_, ap}
-use mathlib.Core.Bool.{Bool, true, false, cond, _&&_, _||_, not}
-use mathlib.Core.List.{List, [], _∷_, _++_}
+use Prim.Native.Nat.{ℕ, zero, suc, _+_, _-_, _/_, _≤_, _<_}
+use mathlib.Core.Path.{_≡_, refl, sym, _∙_, ap, ap₂}
+use mathlib.Core.Bool.{Bool, true, false, cond, _&&_, not}
+use mathlib.Core.List.{List, [], _∷_, _++_, append-nil}
 use native.Mathlib.Omega.{arith}
-use borrow.Author.Tests.{leb-true}
+use native.Mathlib.Decide.{decLt}
+use borrow.Author.Tests.{leb-true, ne-eqb}
 use lib.Dec.{eqb, leb}
-use lib.ListN.{length, getD, length-drop}
+use lib.ListN.{length, getD, set, length-drop, length-set, drop-of-length-le}
+use lib.Seq.{set-getD, getD-set-other, take-all}
 use Rattle.parts.specs.declared.Entry.{Entry}
 use Rattle.parts.specs.declared.Buffer.{Buffer}
 use Rattle.parts.specs.declared.Line.{Line}
+use Rattle.parts.specs.declared.Lines.{Lines}
+use Rattle.parts.specs.Lines.{lineAt, firstLines, putLine}
 use Rattle.parts.specs.States.{Clean, Dirty, ULog}
-use Rattle.parts.specs.Waiting.{entryAt, waiting, discarded, amended}
-use Rattle.parts.proofs.Listed.{length-listed}
+use Rattle.parts.specs.Waiting.{entryAt, waiting, discarded, amended, placeOf}
+use Rattle.parts.proofs.Listed.{length-listed, listed-ext}
+use Rattle.parts.proofs.Waiting.{WholeBuffer, waiting-added}
+use Rattle.parts.proofs.Places.{discarded-at, putRedo, amended-at, amended-none}
+use Rattle.parts.proofs.FirstLines.{WholeLines}
+use Rattle.model.proofs.LinesInUse.{first-changed}
+use Rattle.line_walks.proofs.WordStates.{withStates, replaced, first-marked}
 use Rattle.model.specs.Machine.{Machine, Memory, changed, marked, heldBy, dirtyAs, stateIn, allLogged, withTail, withLines, withUndoRedo, withRedo}
 use Rattle.model.specs.Steps.{undosLogged, storeLogs, storedAs, storeNext}
 use Rattle.model.proofs.Lists.{both-right}
@@ -91,15 +100,87 @@ filed-last m e (suc zero) a b d = absurd (b refl)
 filed-last m e (suc (suc zero)) a b d = absurd (d refl)
 filed-last m e (suc (suc (suc k))) a b d = refl
 
--- the state after a store: of the same value, and of another
-module _ (m : Machine) (mem : Memory) (t w v : ℕ) (same : Bool) (ls : List Line)
-    (claim : ls ≡ changed (λ line. dirtyAs (not same || line .dirty) (heldBy t line)) (w / 8) (m .lines)) where
-  pub next-same : same ≡ true → withLines ls m ≡ storeNext m mem t w v same
-  unfolding storeNext
-  next-same e = rw (claim, e)
+-- the same of a first entry put in place: `ds` are the redo entries that remain
+pub filed-first : (r : State) (e : Entry) (k : ℕ) (ts ws us vs states : List ℕ) (ds : List Entry) → WholeLines (r .lines) → WholeBuffer (r .undos)
+    → r .undos .len < 32 → r .words ≤ 512 → k ≡ 0 → ts ≡ set (r .undos .threads) (r .undos .len) (e .thread)
+    → ws ≡ set (r .undos .words) (r .undos .len) (e .word) → us ≡ set (r .undos .undos) (r .undos .len) (e .undo)
+    → vs ≡ set (r .undos .redos) (r .undos .len) (e .redo) → states ≡ replaced (r .lines .states) (e .word) Dirty
+    → ds ≡ discarded (e .word) (waiting (r .redos))
+    → withLines (firstLines (r .words / 8) (withStates states (r .lines)))
+    (withRedo ds
+    (withUndoRedo (waiting (record { len = r .undos .len + 1; threads = ts; words = ws; undos = us; redos = vs })) (view r)))
+    ≡ storedAs k (e .thread) (e .word) (e .undo) (e .redo) (view r)
+filed-first r e k ts ws us vs states ds lines undos short few clean t w u v marks kept =
+    filed-clean (view r) e k (firstLines (r .words / 8) (withStates states (r .lines)))
+    (waiting (record { len = r .undos .len + 1; threads = ts; words = ws; undos = us; redos = vs })) ds clean
+    (rw marks (first-marked (r .words / 8) (r .lines) (e .word) Dirty lines (omega arith)))
+    (rw (t, w, u, v) (waiting-added (r .undos) e undos short)) kept
 
-  pub next-other : (old k n : ℕ) (room next : Machine) → same ≡ false → getD (mem .working) w 0 ≡ old → n ≡ storeLogs m w same
-      → k ≡ stateIn (m .lines) w → room ≡ undosLogged n (withLines ls m) → next ≡ storedAs k t w old v room
-      → next ≡ storeNext m mem t w v same
+-- a word without a redo entry has none discarded
+pub discarded-none : (w : ℕ) (b : Buffer) (at : ℕ) → b .len ≤ at → at ≡ placeOf w (waiting b) → waiting b ≡ discarded w (waiting b)
+discarded-none w b at h e =
+    let l : length (waiting b) ≤ at = rw length-listed h in
+    let m : length (waiting b) ≤ at + 1 = omega arith in
+    sym (ap₂ (λ (xs ys : List Entry). xs ++ ys) (take-all at (waiting b) l) (drop-of-length-le (waiting b) m) ∙ append-nil (waiting b))
+    ∙ discarded-at w (waiting b) at e
+
+-- the redo at a word's place replaced; without an entry of the word, the place is not in use
+pub amended-put : (w v : ℕ) (b : Buffer) (at : ℕ) (vs : List ℕ) → WholeBuffer b → b .len ≤ 32 → at ≡ placeOf w (waiting b) → vs ≡ set (b .redos) at v
+    → waiting (record { len = b .len; threads = b .threads; words = b .words; undos = b .undos; redos = vs }) ≡ amended w v (waiting b)
+amended-put w v b at vs whole short place put =
+    rw put
+    (elim (decLt at (b .len)) [
+      | yes h ↦ amended-at w v b at whole short h place
+      | no q ↦
+          listed-ext (b .len) (entryAt (putRedo b at v)) (entryAt b) (λ i l. let ne : i ≡ at → ⊥ = omega arith in simp getD-set-other)
+          ∙ amended-none w v b at (omega arith) place
+    ])
+
+-- the lines whose line i is claimed by thread t, the arrays being changed in place
+module _ (n : ℕ) (ls : Lines) (i t : ℕ) (hs : List ℕ) (whole : WholeLines ls) (h : n ≤ 64) (held : hs ≡ set (ls .holders) i t) where
+  pub held-lines : firstLines n (record { holders = hs; dirty = ls .dirty; states = ls .states }) ≡ changed (heldBy t) i (firstLines n ls)
+  held-lines = rw held (ap (firstLines n) (sym held-put) ∙ first-changed (heldBy t) n ls i whole h)
+    where
+      held-put : putLine ls i (heldBy t (lineAt ls i)) ≡ record { holders = set (ls .holders) i t; dirty = ls .dirty; states = ls .states }
+      held-put = simp set-getD
+
+  module _ (ds : List Bool) (dirty : ds ≡ set (ls .dirty) i true) where
+    pub dirty-lines : firstLines n (record { holders = hs; dirty = ds; states = ls .states })
+        ≡ changed (λ line. dirtyAs true (heldBy t line)) i (firstLines n ls)
+    dirty-lines =
+        rw (held, dirty) (ap (firstLines n) (sym dirty-put) ∙ first-changed (λ line. dirtyAs true (heldBy t line)) n ls i whole h)
+      where
+        dirty-put : putLine ls i (dirtyAs true (heldBy t (lineAt ls i)))
+            ≡ record { holders = set (ls .holders) i t; dirty = set (ls .dirty) i true; states = ls .states }
+        dirty-put = simp set-getD
+
+    pub whole-dirty : WholeLines (record { holders = hs; dirty = ds; states = ls .states })
+    whole-dirty =
+        record {
+          holders = ap length held ∙ simp length-set (whole .holders);
+          dirty = ap length dirty ∙ simp length-set (whole .dirty);
+          states = whole .states;
+        }
+
+-- a state with its arrays whole, seen as a state of the model
+pub record Ready (m : Machine) (r : State) : Type 0 where
+  pub seen : view r ≡ m
+  pub lines : WholeLines (r .lines)
+  pub undos : WholeBuffer (r .undos)
+
+-- only for a Clean word is an entry logged first
+pub logs-none : (m : Machine) (w : ℕ) (same : Bool) (k n : ℕ) → same ≡ false → k ≡ stateIn (m .lines) w → (k ≡ 0 → ⊥) → n ≡ storeLogs m w same → n ≡ 0
+unfolding storeLogs
+logs-none m w same k n e kind ne count = count ∙ rw (e, ← kind, ne-eqb k 0 ne)
+
+-- the state after a store of the same value, and of another
+module _ (m : Machine) (mem : Memory) (t w v : ℕ) (same : Bool) (ls : List Line) where
+  pub next-same : same ≡ true → ls ≡ changed (heldBy t) (w / 8) (m .lines) → withLines ls m ≡ storeNext m mem t w v same
   unfolding storeNext
-  next-other old k n room next e was count kind r f = f ∙ rw (r, count, kind, claim, ← was, e)
+  next-same e claim = rw (claim, e)
+
+  pub next-other : (old k n : ℕ) (room next : Machine) → same ≡ false → ls ≡ changed (λ line. dirtyAs true (heldBy t line)) (w / 8) (m .lines)
+      → getD (mem .working) w 0 ≡ old → n ≡ storeLogs m w same → k ≡ stateIn (m .lines) w → room ≡ undosLogged n (withLines ls m)
+      → next ≡ storedAs k t w old v room → next ≡ storeNext m mem t w v same
+  unfolding storeNext
+  next-other old k n room next e claim was count kind r f = f ∙ rw (r, count, kind, claim, ← was, e)

@@ -5,14 +5,16 @@ use mathlib.Core.Bool.{Bool, true, false, cond, _||_, not}
 use mathlib.Core.List.{List, [], _∷_, _++_, map}
 use native.Mathlib.Numerals.{add-one}
 use native.Mathlib.Omega.{arith}
-use borrow.Author.Tests.{lt-ltb, eqb-true, eqb-false, not-false}
+use borrow.Author.Tests.{eqb-true, eqb-false, not-false}
 use lib.Dec.{eqb, ltb}
 use lib.ListN.{length, getD, set, take, replicate}
 use lib.Seq.{take-all, take-suc, take-suc-set}
 use Rattle.log.specs.Stores.{Store, stored, storedUnder}
 use Rattle.log.specs.Region.{numbers, slotsOf, headOf, tailOf, recordsOf, headStores}
 use Rattle.log.specs.Holding.{Every}
+use Rattle.log.proofs.Stored.{under-none}
 use Rattle.log.proofs.Sizes.{sized}
+use Rattle.log.proofs.Holding.{size-of-head}
 use Rattle.parts.specs.declared.Buffer.{Buffer}
 use Rattle.parts.specs.declared.Lines.{Lines}
 use Rattle.parts.specs.Waiting.{waiting}
@@ -31,7 +33,6 @@ use Rattle.model.proofs.Performing.{puts, puts-home, puts-head, partly}
 use Rattle.model.proofs.Outcomes.{none-apply, number-first, number-then, outcome-refused, outcome-done, outcome-cut}
 use Rattle.recovery.specs.declared.Replayed.{Replayed}
 use Rattle.recovery.specs.Replaying.{replayStores, replayed}
-use Rattle.recovery.proofs.TwoPasses.{made-none}
 use Rattle.machine.specs.View.{view}
 use Rattle.machine.specs.Recovering.{unreadableRows}
 use Rattle.machine.proofs.Outcome.{outcome-eq, Width, width}
@@ -173,8 +174,8 @@ module _ (mem : Memory) where
       pub recover-damaged : r .bad ≡ true → o .answer ≡ 14 → o .left ≡ c → o .machine ≡ lostMachine → o .memory .working ≡ mem .working
           → o .memory .log ≡ mem .log → o ≡ stepped recover c lostMachine mem
       recover-damaged e a l s w g =
-          let none = made-none c (mem .home) (replayStores (length (mem .home)) (mem .log)) (rw (← bad, e)) in
-          recover-refused 14 (refused-damaged zero (sym e ∙ bad)) (λ z. omega arith) a l s (home ∙ none .1) w g
+          let none = under-none c (mem .home) (replayStores (length (mem .home)) (mem .log)) (rw (← bad, e)) in
+          recover-refused 14 (refused-damaged zero (sym e ∙ bad)) (λ z. omega arith) a l s (home ∙ sym (none .1)) w g
 
       module _ (good : r .bad ≡ false) (log : o .memory .log ≡ storedUnder (r .left) (mem .log) (headStores (slotsOf (mem .log)) (r .tail))) where
         none-bad : Every (λ r. r .applies ≡ false) recoverRows
@@ -193,8 +194,7 @@ module _ (mem : Memory) where
         log-same = log ∙ ap₂ (λ (n k : ℕ). storedUnder n (mem .log) (headStores (slotsOf (mem .log)) k)) less tail
 
         one : length lastStore ≡ 1
-        unfolding headStores
-        one = let r = fits-unread zero in rw (lt-ltb 0 (slotsOf (mem .log)) (r .some))
+        one = size-of-head (slotsOf (mem .log)) (tailOf (mem .log)) (fits-unread zero .some)
 
         -- cut: not all stores are made
         pub recover-cut : r .left ≡ 0 → o .answer ≡ 255 → o .left ≡ 0 → o .machine ≡ lostMachine

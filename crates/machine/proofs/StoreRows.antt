@@ -22,7 +22,6 @@ use Rattle.logging.proofs.Appending.{Appended}
 use Rattle.machine.specs.declared.State.{State}
 use Rattle.machine.specs.declared.Answer.{Answer}
 use Rattle.machine.specs.View.{view, shown}
-use Rattle.machine.proofs.Refused.{refused-then}
 use Rattle.machine.proofs.Outcome.{Width, width}
 use Rattle.machine.proofs.Appending.{room, append-done, append-cut}
 use Rattle.machine.proofs.Filing.{logs-most, waiting-length}
@@ -34,6 +33,10 @@ placeRows m t w = unknownThread t ∷ unknownWord m w ∷ []
 abbrev pub lateRows : Machine → ℕ → ℕ → Bool → List Row
 lateRows m t w same =
     notOpen m t ∷ row (heldByAnother m t w) held ∷ noRoom m (undoRecords (storeLogs m w same) m)
+
+-- the rows before those
+abbrev pub earlyRows : Machine → Memory → ℕ → ℕ → List Row
+earlyRows m mem t w = common m mem ++ placeRows m t w
 
 abbrev pub storeRows : Machine → Memory → ℕ → ℕ → ℕ → List Row
 storeRows m mem t w v = common m mem ++ (placeRows m t w ++ lateRows m t w (eqb v (getD (mem .working) w 0)))
@@ -50,33 +53,32 @@ pub place-number : (m : Machine) (t w n k : ℕ) → k ≡ cond (leb (m .words) 
 unfolding numberOf
 place-number m t w n k second first = rw (first, second)
 
-pub late-number : (s : State) (t w : ℕ) (same taken : Bool) (k a b n : ℕ) → k ≡ storeLogs (view s) w same → taken ≡ heldByAnother (view s) t w
-    → n ≡ cond (ltb (freeSlots (view s)) k) 10 (cond (ltb 0 k && ltb numbers (s .tail + k)) 11 0) → b ≡ cond taken 8 n
-    → a ≡ cond (not (isOpen (view s) t)) 6 b → a ≡ numberOf (lateRows (view s) t w same)
+pub late-number : (s : State) (t w : ℕ) (same taken : Bool) (k n : ℕ) → k ≡ storeLogs (view s) w same → taken ≡ heldByAnother (view s) t w
+    → n ≡ cond (not (isOpen (view s) t)) 6
+    (cond taken 8 (cond (ltb (freeSlots (view s)) k) 10 (cond (ltb 0 k && ltb numbers (s .tail + k)) 11 0)))
+    → n ≡ numberOf (lateRows (view s) t w same)
 unfolding numberOf
-late-number s t w same taken k a b n count other none second first =
-    let e : length (undoRecords (storeLogs (view s) w same) (view s)) ≡ k = store-records s w same ∙ sym count in
-    rw (e, first, second, none, other)
+late-number s t w same taken k n count other e =
+    let size : length (undoRecords (storeLogs (view s) w same) (view s)) ≡ k = store-records s w same ∙ sym count in
+    rw (size, e, other)
 
--- none of the rows of thread and word applies, if their number is 0
-pub place-passed : (m : Machine) (t w n : ℕ) → n ≡ numberOf (placeRows m t w) → n ≡ 0 → Every (λ r. r .applies ≡ false) (placeRows m t w)
-place-passed m t w n e none = none-apply (placeRows m t w) (omega arith, (omega arith, tt)) (sym e ∙ none)
-
--- where the common rows let a store pass, and n is the number of those of thread and word
-module _ (m : Machine) (mem : Memory) (t w v k n : ℕ) (first : k ≡ numberOf (common m mem)) (pass : k ≡ 0)
-    (second : n ≡ numberOf (placeRows m t w)) where
+-- where n is the number of the early rows
+module _ (m : Machine) (mem : Memory) (t w v n : ℕ) (early : n ≡ numberOf (earlyRows m mem t w)) where
   abbrev late : List Row
   late = lateRows m t w (eqb v (getD (mem .working) w 0))
 
-  -- they refuse it, or the later ones decide
-  pub place-refused : (n ≡ 0 → ⊥) → n ≡ numberOf (storeRows m mem t w v)
-  place-refused some =
-      sym (number-first (placeRows m t w) late n (sym second) some) ∙ refused-then m mem (placeRows m t w ++ late) k first pass
+  -- they refuse the store
+  pub early-refused : (n ≡ 0 → ⊥) → n ≡ numberOf (storeRows m mem t w v)
+  early-refused some = sym (number-first (earlyRows m mem t w) late n (sym early) some)
 
+  -- or none of them applies
+  pub early-passed : n ≡ 0 → Every (λ r. r .applies ≡ false) (earlyRows m mem t w)
+  early-passed none =
+      none-apply (earlyRows m mem t w) (omega arith, (omega arith, (omega arith, (omega arith, (omega arith, tt))))) (sym early ∙ none)
+
+  -- and the later ones decide
   pub late-decides : n ≡ 0 → numberOf late ≡ numberOf (storeRows m mem t w v)
-  late-decides none =
-      sym (number-then (placeRows m t w) late (place-passed m t w n second none))
-      ∙ refused-then m mem (placeRows m t w ++ late) k first pass
+  late-decides none = sym (number-then (earlyRows m mem t w) late (early-passed none))
 
 module _ (m : Machine) (mem : Memory) (t w : ℕ) where
   -- thread and word are known, and the state fits the lent buffers
@@ -86,14 +88,14 @@ module _ (m : Machine) (mem : Memory) (t w : ℕ) where
     pub word : w < m .words
     pub width : Width (m .words)
 
-  pub known : Every (λ r. r .applies ≡ false) (common m mem) → Every (λ r. r .applies ≡ false) (placeRows m t w) → Known
-  known first none =
-      let fits = fit m mem first in
-      let known-thread = ltb-false 7 t (none .0) in
+  pub known : Every (λ r. r .applies ≡ false) (earlyRows m mem t w) → Known
+  known none =
+      let fits = fit m mem (none .0, (none .1 .0, (none .1 .1 .0, tt))) in
+      let known-thread = ltb-false 7 t (none .1 .1 .1 .0) in
       record {
         fits = fits;
         thread = omega arith;
-        word = leb-false (m .words) w (none .1 .0);
+        word = leb-false (m .words) w (none .1 .1 .1 .1 .0);
         width = width (m .words) (fits .clauses .width);
       }
 
@@ -128,7 +130,8 @@ module _ (s : State) (mem : Memory) (c t w v : ℕ) where
   pub allowed : numberOf (storeRows (view s) mem t w v) ≡ 0 → Allowed
   allowed e =
       let none = none-apply (storeRows (view s) mem t w v) positive e in
-      let fits = known (view s) mem t w (none .0, (none .1 .0, (none .1 .1 .0, tt))) (none .1 .1 .1 .0, (none .1 .1 .1 .1 .0, tt)) in
+      let fits =
+      known (view s) mem t w (none .0, (none .1 .0, (none .1 .1 .0, (none .1 .1 .1 .0, (none .1 .1 .1 .1 .0, tt))))) in
       let full = room (view s) records (fits .fits .clauses .tail) (none .1 .1 .1 .1 .1 .1 .1 .1 .0) in
       let size = store-records s w same in
       record { none = none; known = fits; below = omega arith }

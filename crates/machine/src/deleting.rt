@@ -38,11 +38,20 @@ pub fn is_bad(reading: Reading) -> bool
 }
 
 // Whether a record of the thread for the word is needed, `from` to `to` being the records after it.
-fn is_kept(lines: Lines, log: &[u64], from: u64, to: u64, words: u16, thread: u8, word: u16) -> bool
+fn is_kept(
+    dirty: &[bool; 64],
+    log: &[u64],
+    from: u64,
+    to: u64,
+    words: u16,
+    thread: u8,
+    word: u16,
+) -> bool
     requires { ⌜ (word < words) × ((words % 8 ≡ 0) × (words ≤ 512)) ⌝ }
-    ensures { λ r. ⌜ r ≡ (not (any (isCommitOf thread) (readFrom (to - from) words (now (log .entry)) from)) || dirtyIn (firstLines (words / 8) lines) word) ⌝ }
+    ensures { λ r. ⌜ ((ls : Lines) → ls .dirty ≡ now (dirty .entry)
+        → r ≡ (not (any (isCommitOf thread) (readFrom (to - from) words (now (log .entry)) from)) || dirtyIn (firstLines (words / 8) ls) word)) ⌝ }
 {
-    !has_commit(log, from, to, words, thread) | dirty_of(lines, word)
+    !has_commit(log, from, to, words, thread) | dirty_of(dirty, word)
 }
 
 // "the oldest is no commit, and its thread has no later commit in the log or its line is dirty"
@@ -51,7 +60,6 @@ fn is_needed(state: State, log: &[u64], oldest: Reading) -> bool
     requires { ⌜ ValidIf (state .words) oldest ⌝ }
     ensures { λ r. ⌜ r ≡ isNeeded (view state) oldest (later (view state) (now (log .entry))) ⌝ }
 {
-    let lines = state.lines;
     let from = state.head + 1;
     let to = state.tail;
     let words = state.words;
@@ -62,12 +70,12 @@ fn is_needed(state: State, log: &[u64], oldest: Reading) -> bool
                 word,
                 undo: _,
                 redo: _,
-            } => is_kept(lines, log, from, to, words, thread, word),
+            } => is_kept(&state.lines.dirty, log, from, to, words, thread, word),
             Record::Redo {
                 thread,
                 word,
                 redo: _,
-            } => is_kept(lines, log, from, to, words, thread, word),
+            } => is_kept(&state.lines.dirty, log, from, to, words, thread, word),
             Record::Commit { thread: _ } => false,
         },
         Reading::Bad => false,

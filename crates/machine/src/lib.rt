@@ -8,6 +8,7 @@ mod committing;
 mod deleting;
 mod evicting;
 mod log_oldest;
+mod places;
 mod recovering;
 mod refusals;
 mod sizes;

@@ -1,16 +1,16 @@
 // "Store t, word, value": the line is claimed, and another value is filed by the word's state.
 ghost use mathlib.Core.Path.{_≡_};
-ghost use mathlib.Core.Bool.{_&&_, _||_, not};
-ghost use mathlib.Core.List.{_∷_, _++_};
-ghost use Prim.Native.Nat.{ℕ, _+_, _/_, _%_, _≤_, _<_};
-ghost use lib.Dec.{eqb};
+ghost use mathlib.Core.Bool.{cond, _&&_, not};
+ghost use mathlib.Core.List.{[], _∷_, _++_};
+ghost use Prim.Native.Nat.{ℕ, _+_, _-_, _/_, _%_, _≤_, _<_};
+ghost use lib.Dec.{eqb, ltb};
 ghost use lib.ListN.{getD};
 ghost use Rattle.log.specs.Region.{numbers};
 ghost use Rattle.parts.specs.Lines.{nobody, firstLines};
-ghost use Rattle.model.specs.Machine.{Memory, changed, heldBy, dirtyAs, holderIn};
-ghost use Rattle.model.specs.Refusals.{numberOf, row, held, common as commonRows, unknownThread, unknownWord, notOpen, noRoom};
+ghost use Rattle.model.specs.Machine.{Machine, Memory, holderIn};
+ghost use Rattle.model.specs.Refusals.{numberOf, common as commonRows, unknownThread, unknownWord};
 ghost use Rattle.model.specs.Step.{store, stepped};
-ghost use Rattle.model.specs.Steps.{undoRecords, undosLogged, storeLogs, storedAs, storeNext, heldByAnother};
+ghost use Rattle.model.specs.Steps.{storeLogs, storeNext};
 ghost use Rattle.machine.specs.View.{view, memory, shown};
 use crate::Answer;
 use crate::DONE;
@@ -19,6 +19,12 @@ use crate::IDLE;
 use crate::PLACE;
 use crate::State;
 use crate::THREAD;
+use crate::places::find;
+use crate::places::put_flag;
+use crate::places::put_holder;
+use crate::places::put_thread;
+use crate::places::put_value;
+use crate::places::put_word;
 use crate::refusals::common;
 use crate::refusals::no_room;
 use crate::refusals::refuse;
@@ -26,9 +32,9 @@ use crate::ways_out::cut;
 use crate::words::holder_of;
 use crate::words::state_of;
 use crate::words::undos_logged;
+use line_walks::mark;
 use logging::append_oldest;
 use parts::Entry;
-use parts::Line;
 use parts::Lines;
 
 // The two-bit states that a store tells apart.
@@ -41,153 +47,93 @@ const UR_LOG: u64 = 2;
 const U_LOG: u64 = 3;
 
 // A thread other than this one holds the line of the word.
-pub fn held_by_another(lines: Lines, thread: u64, word: u16) -> bool
-    ensures { λ r. ⌜ ((n : ℕ) → n ≤ 64 → word / 8 < n
-        → r ≡ (not (eqb (holderIn (firstLines n lines) word) nobody) && not (eqb (holderIn (firstLines n lines) word) thread))) ⌝ }
+pub fn held_by_another(holders: &[u8; 64], thread: u64, word: u16) -> bool
+    requires { ⌜ word < 512 ⌝ }
+    ensures { λ r. ⌜ ((ls : Lines) → ls .holders ≡ now (holders .entry) → (n : ℕ) → word / 8 < n
+        → r ≡ (not (eqb (holderIn (firstLines n ls) word) nobody) && not (eqb (holderIn (firstLines n ls) word) thread))) ⌝ }
 {
-    let holder = holder_of(lines, word) as u64;
+    let holder = holder_of(holders, word) as u64;
     (holder != 255) & (holder != thread)
 }
 
 // How many entries a store logs first: the oldest, if another value comes to a Clean word and 16 entries wait.
-pub fn logs_first(state: State, word: u16, same: bool) -> usize
-    requires { ⌜ (word / 8 < state .words / 8) × (state .words ≤ 512) ⌝ }
-    ensures { λ r. ⌜ r ≡ storeLogs (view state) word same ⌝ }
+pub fn logs_first(states: &[u16; 64], len: usize, word: u16, same: bool) -> usize
+    requires { ⌜ word < 512 ⌝ }
+    ensures { λ r. ⌜ ((s : State) → s .lines .states ≡ now (states .entry) → s .undos .len ≡ len → word / 8 < s .words / 8
+        → r ≡ storeLogs (view s) word same) ⌝ }
 {
-    let clean = state_of(state.lines, word) == CLEAN;
-    if !same & (clean & (16 <= state.undos.len)) {
-        1
-    } else {
-        0
-    }
-}
-
-// The lines with that of the word held by the thread, and dirty if the word changes.
-pub fn claimed(lines: Lines, thread: u8, word: u16, changes: bool) -> Lines
-    ensures { λ (r : Lines). ⌜ ((n : ℕ) → n ≤ 64
-        → firstLines n r ≡ changed (λ line. dirtyAs (changes || line .dirty) (heldBy thread line)) (word / 8) (firstLines n lines)) ⌝ }
-{
-    let at = (word / 8) as usize;
-    let line = lines.line(at);
-    lines.put(
-        at,
-        Line {
-            holder: thread,
-            dirty: changes | line.dirty,
-            states: line.states,
-        },
-    )
-}
-
-// The state with another value of the entry's word filed, by the word's state before. A ULog word stays as it is.
-pub fn filed(state: State, kind: u64, entry: Entry) -> State
-    requires { ⌜ (state .undos .len < 32) × ((state .redos .len ≤ 32) × (state .words ≤ 512)) ⌝ }
-    ensures { λ (r : State). ⌜ view r ≡ storedAs kind (entry .thread) (entry .word) (entry .undo) (entry .redo) (view state) ⌝ }
-{
-    let lines = state.lines;
-    let undos = state.undos;
-    let redos = state.redos;
-    let mut next = state;
-    match kind {
-        CLEAN => {
-            let kept = redos.discard(entry.word);
-            let waiting = undos.add(entry);
-            let marked = line_walks::mark(lines, entry.word, DIRTY);
-            next.redos = kept;
-            next.undos = waiting;
-            next.lines = marked;
-        }
-        DIRTY => {
-            let amended = undos.amend(entry.word, entry.redo);
-            next.undos = amended;
-        }
-        UR_LOG => {
-            let marked = line_walks::mark(lines, entry.word, U_LOG);
-            next.lines = marked;
-        }
-        _ => {}
-    }
-    next
-}
-
-// The state with its `count` oldest undo+redo entries logged: none, or one.
-pub fn made_room(state: State, count: usize) -> State
-    requires { ⌜ (count ≤ state .undos .len) × ((state .undos .len ≤ 32) × ((state .words ≤ 512) × (state .tail ≤ 281474976710656))) ⌝ }
-    ensures { λ (r : State). ⌜ view r ≡ undosLogged count (view state) ⌝ }
-{
-    if count == 0 {
-        state
-    } else {
-        undos_logged(state, count)
-    }
+    let clean = state_of(states, word) == CLEAN;
+    if !same & (clean & (16 <= len)) { 1 } else { 0 }
 }
 
 // The state after a store that replaces `entry.undo` by `entry.redo` and that logs `count` entries first.
-pub fn next_state(state: State, entry: Entry, count: usize) -> State
+pub fn next_state(mut state: State, entry: Entry, count: usize) -> State
     requires { ⌜ (state .undos .len ≤ 16) × ((state .redos .len ≤ 32) × (state .tail ≤ 281474976710656)) ⌝ }
     requires { ⌜ (entry .word < state .words) × ((state .words ≤ 512) × (state .words % 8 ≡ 0)) ⌝ }
     requires { ⌜ count ≡ storeLogs (view state) (entry .word) (eqb (entry .redo) (entry .undo)) ⌝ }
     ensures { λ (r : State). ⌜ ((mem : Memory) → getD (mem .working) (entry .word) 0 ≡ entry .undo
         → view r ≡ storeNext (view state) mem (entry .thread) (entry .word) (entry .redo) (eqb (entry .redo) (entry .undo))) ⌝ }
 {
-    let same = entry.redo == entry.undo;
-    let kind = state_of(state.lines, entry.word);
-    let lines = claimed(state.lines, entry.thread, entry.word, !same);
-    let mut next = state;
-    next.lines = lines;
-    if same {
-        return next;
+    let line = (entry.word / 8) as usize;
+    let kind = state_of(&state.lines.states, entry.word);
+    put_holder(&mut state.lines.holders, line, entry.thread);
+    if entry.redo == entry.undo {
+        return state;
     }
-    filed(made_room(next, count), kind, entry)
+    put_flag(&mut state.lines.dirty, line, true);
+    match kind {
+        CLEAN => {
+            if count != 0 {
+                state = undos_logged(state, count);
+            }
+            let at = state.undos.len;
+            put_thread(&mut state.undos.threads, at, entry.thread);
+            put_word(&mut state.undos.words, at, entry.word);
+            put_value(&mut state.undos.undos, at, entry.undo);
+            put_value(&mut state.undos.redos, at, entry.redo);
+            state.undos.len = at + 1;
+            mark(&mut state.lines.states, entry.word, DIRTY);
+            let redos = state.redos.len;
+            if find(&state.redos.words, redos, entry.word) < redos {
+                let waiting = state.redos;
+                let kept = waiting.discard(entry.word);
+                state.redos = kept;
+            }
+        }
+        // Such a word has an entry; without one, a place that is not in use would be written.
+        DIRTY => {
+            let len = state.undos.len;
+            let at = find(&state.undos.words, len, entry.word);
+            put_value(&mut state.undos.redos, at, entry.redo);
+        }
+        UR_LOG => mark(&mut state.lines.states, entry.word, U_LOG),
+        _ => {}
+    }
+    state
 }
 
-// The number under which a store of a known thread to a known word is refused, or 0.
-pub fn late_refusal(state: State, thread: u64, word: u64, same: bool) -> u64
-    requires { ⌜ (thread < 8) × ((word < state .words) × ((state .words ≤ 512) × (state .words % 8 ≡ 0))) ⌝ }
-    requires { ⌜ (state .head ≤ state .tail) × ((state .tail ≤ state .head + state .slots) × (state .tail ≤ numbers)) ⌝ }
-    ensures { λ r. ⌜ r ≡ numberOf (notOpen (view state) thread ∷ row (heldByAnother (view state) thread word) held
-        ∷ noRoom (view state) (undoRecords (storeLogs (view state) word same) (view state))) ⌝ }
+// The number of the rows that `unfit` is of, or of an unknown thread or word after them, or 0.
+pub fn early_refusal(unfit: u64, words: u16, thread: u64, word: u64) -> u64
+    ensures { λ r. ⌜ ((m : Machine) (mem : Memory) → m .words ≡ words → unfit ≡ numberOf (commonRows m mem)
+        → r ≡ numberOf (commonRows m mem ++ (unknownThread thread ∷ unknownWord m word ∷ []))) ⌝ }
 {
-    let t = thread as usize;
-    let w = word as u16;
-    let count = logs_first(state, w, same) as u64;
-    let taken = held_by_another(state.lines, thread, w);
+    if unfit != 0 {
+        return unfit;
+    }
+    refuse(7 < thread, THREAD, refuse(words as u64 <= word, PLACE, 0))
+}
+
+// The number under which a store of a known thread to a known word is refused, or 0; it logs `count` records.
+pub fn late_refusal(idle: bool, taken: bool, count: usize, slots: u16, head: u64, tail: u64) -> u64
+    requires { ⌜ (head ≤ tail) × ((tail ≤ head + slots) × ((tail ≤ numbers) × (count ≤ 1))) ⌝ }
+    ensures { λ r. ⌜ r ≡ cond idle 6 (cond taken 8
+        (cond (ltb (slots - (tail - head)) count) 10 (cond (ltb 0 count && ltb numbers (tail + count)) 11 0))) ⌝ }
+{
     refuse(
-        !state.opened[t],
+        idle,
         IDLE,
-        refuse(
-            taken,
-            HELD,
-            no_room(state.slots, state.head, state.tail, count, 0),
-        ),
+        refuse(taken, HELD, no_room(slots, head, tail, count as u64, 0)),
     )
-}
-
-// The number under which a store is refused, or 0.
-pub fn store_refusal(
-    state: State,
-    home: &[u64],
-    working: &[u64],
-    log: &[u64],
-    thread: u64,
-    word: u64,
-    value: u64,
-) -> u64
-    ensures { λ r. ⌜ r ≡ numberOf (commonRows (view state) (memory (now (home .entry)) (now (working .entry)) (now (log .entry)))
-        ++ (unknownThread thread ∷ unknownWord (view state) word ∷ notOpen (view state) thread ∷ row (heldByAnother (view state) thread word) held
-        ∷ noRoom (view state) (undoRecords (storeLogs (view state) word (eqb value (getD (now (working .entry)) word 0))) (view state)))) ⌝ }
-{
-    let first = common(state, home, working, log);
-    if first != 0 {
-        return first;
-    }
-    let words = state.words as u64;
-    let early = refuse(7 < thread, THREAD, refuse(words <= word, PLACE, 0));
-    if early != 0 {
-        return early;
-    }
-    let at = word as usize;
-    late_refusal(state, thread, word, value == working[at])
 }
 
 impl State {
@@ -205,10 +151,11 @@ impl State {
         ensures { λ (r : Answer). ⌜ shown r (now (home .exit)) (now (working .exit)) (now (log .exit))
             ≡ stepped (store thread word value) supply (view self) (memory (now (home .entry)) (now (working .entry)) (now (log .entry))) ⌝ }
     {
-        let number = store_refusal(self, home, working, log, thread, word, value);
-        if number != 0 {
+        let unfit = common(self, home, working, log);
+        let early = early_refusal(unfit, self.words, thread, word);
+        if early != 0 {
             return Answer {
-                answer: number,
+                answer: early,
                 left: supply,
                 state: self,
             };
@@ -220,7 +167,29 @@ impl State {
             undo: working[at],
             redo: value,
         };
-        let count = logs_first(self, entry.word, value == entry.undo);
+        let t = thread as usize;
+        let taken = held_by_another(&self.lines.holders, thread, entry.word);
+        let count = logs_first(
+            &self.lines.states,
+            self.undos.len,
+            entry.word,
+            value == entry.undo,
+        );
+        let late = late_refusal(
+            !self.opened[t],
+            taken,
+            count,
+            self.slots,
+            self.head,
+            self.tail,
+        );
+        if late != 0 {
+            return Answer {
+                answer: late,
+                left: supply,
+                state: self,
+            };
+        }
         let left = append_oldest(log, self.tail, self.undos, count, true, supply);
         if supply < 3 * count as u64 {
             return cut(working);

@@ -8,26 +8,29 @@ ghost use Rattle.machine.specs.View.{view};
 use crate::State;
 use parts::Lines;
 
-// The state of a word, by its line; n is the number of lines in use.
-pub fn state_of(lines: Lines, word: u16) -> u64
-    ensures { λ r. ⌜ ((n : ℕ) → n ≤ 64 → word / 8 < n → r ≡ stateIn (firstLines n lines) word) ⌝ }
+// The state of a word, by the states of the lines; n is the number of lines in use.
+pub fn state_of(states: &[u16; 64], word: u16) -> u64
+    requires { ⌜ word < 512 ⌝ }
+    ensures { λ r. ⌜ ((ls : Lines) → ls .states ≡ now (states .entry) → (n : ℕ) → word / 8 < n → r ≡ stateIn (firstLines n ls) word) ⌝ }
 {
-    let line = lines.line((word / 8) as usize);
-    parts::state_at(line.states, (word % 8) as u64)
+    let at = (word / 8) as usize;
+    parts::state_at(states[at], (word % 8) as u64)
 }
 
-pub fn holder_of(lines: Lines, word: u16) -> u8
-    ensures { λ r. ⌜ ((n : ℕ) → n ≤ 64 → word / 8 < n → r ≡ holderIn (firstLines n lines) word) ⌝ }
+pub fn holder_of(holders: &[u8; 64], word: u16) -> u8
+    requires { ⌜ word < 512 ⌝ }
+    ensures { λ r. ⌜ ((ls : Lines) → ls .holders ≡ now (holders .entry) → (n : ℕ) → word / 8 < n → r ≡ holderIn (firstLines n ls) word) ⌝ }
 {
-    let line = lines.line((word / 8) as usize);
-    line.holder
+    let at = (word / 8) as usize;
+    holders[at]
 }
 
-pub fn dirty_of(lines: Lines, word: u16) -> bool
-    ensures { λ r. ⌜ ((n : ℕ) → n ≤ 64 → word / 8 < n → r ≡ dirtyIn (firstLines n lines) word) ⌝ }
+pub fn dirty_of(dirty: &[bool; 64], word: u16) -> bool
+    requires { ⌜ word < 512 ⌝ }
+    ensures { λ r. ⌜ ((ls : Lines) → ls .dirty ≡ now (dirty .entry) → (n : ℕ) → word / 8 < n → r ≡ dirtyIn (firstLines n ls) word) ⌝ }
 {
-    let line = lines.line((word / 8) as usize);
-    line.dirty
+    let at = (word / 8) as usize;
+    dirty[at]
 }
 
 // The state after its `count` oldest undo+redo entries are logged.

@@ -3,23 +3,22 @@ use Prim.Native.Nat.{ℕ, _+_, _-_, _≤_, _<_}
 use mathlib.Core.Path.{_≡_, refl, sym, _∙_, ap, ap₂}
 use mathlib.Core.Bool.{Bool, true, false, cond, not}
 use mathlib.Core.List.{List, [], _∷_, _++_, append-nil}
-use native.Mathlib.Nat.{sub-zero}
 use native.Mathlib.Omega.{arith}
 use lib.ListN.{length, take, length-append}
-use lib.Seq.{take-nil}
 use Rattle.log.specs.declared.Record.{Record}
 use Rattle.log.specs.declared.Record.the-variants.{UndoRedo, Redo, Commit}
 use Rattle.log.specs.declared.Reading.{Reading}
 use Rattle.log.specs.declared.Reading.the-variants.{Good, Bad}
-use Rattle.log.specs.Stores.{Store, stored, storedUnder}
+use Rattle.log.specs.Stores.{Store, storedUnder}
 use Rattle.log.specs.Region.{headOf, readBack, readFrom, recordsOf}
-use Rattle.log.proofs.Stored.{length-stored, under-append}
+use Rattle.log.proofs.Stored.{length-stored, under-append, under-none}
+use Rattle.log.proofs.Searching.{read-none, read-next}
 use Rattle.model.specs.Recovery.{closed, redoWrites, undoWrites, recoveryWrites, records}
 use Rattle.recovery.specs.declared.reading.Found.{Found}
 use Rattle.recovery.specs.declared.passes.Write.{Write}
 use Rattle.recovery.specs.Replaying.{replayStores, replayed}
 use Rattle.recovery.specs.Recovering.{ValidIf, recordsFrom, closedBy, Lasts, Scanned, writes, threadRead, redoIf, undoIf, redoRead, undoRead}
-use Rattle.recovery.proofs.ReadOn.{read-next, read-none, valid-read}
+use Rattle.recovery.proofs.ReadOn.{valid-read}
 
 -- a store that is made unless the record is closed
 pub open-closed : (b d : Bool) (s : Store) → b ≡ d → cond (not b) (s ∷ []) [] ≡ cond d [] (s ∷ [])
@@ -78,8 +77,7 @@ pub make-one : (w : Write) (c r : ℕ) (xs ys : List ℕ) → w .made ≡ true �
 make-one w c r xs ys e f g = rw e (f, g)
 
 pub make-none : (w : Write) (c : ℕ) (xs : List ℕ) → w .made ≡ false → (c ≡ c - length (writes w)) × (xs ≡ storedUnder c xs (writes w))
-unfolding stored
-make-none w c xs e = simp (e, take-nil, sub-zero) (refl, refl)
+make-none w c xs e = under-none c xs (writes w) (rw e)
 
 -- Stores under a supply, and then more under what they leave of it.
 module _ (c left : ℕ) (xs ys : List ℕ) (ss ts : List Store) (less : left ≡ c - length ss) (made : ys ≡ storedUnder c xs ss) where
@@ -89,11 +87,6 @@ module _ (c left : ℕ) (xs ys : List ℕ) (ss ts : List Store) (less : left ≡
 
   then-made : storedUnder left ys ts ≡ storedUnder c xs (ss ++ ts)
   then-made = rw (less, made) (sym (under-append c xs ss ts))
-
--- a list of stores that comes to nothing
-pub made-none : (c : ℕ) (xs : List ℕ) (ss : List Store) → ss ≡ [] → (c - length ss ≡ c) × (storedUnder c xs ss ≡ xs)
-unfolding stored
-made-none c xs ss e = simp (e, take-nil, sub-zero) (refl, refl)
 
 module _ (words : ℕ) (log : List ℕ) (head tail supply : ℕ) (old : List ℕ) where
   -- The pass forward at a number: the stores from it on are what is left of them all.
@@ -130,8 +123,8 @@ module _ (words : ℕ) (log : List ℕ) (head tail supply : ℕ) (old : List ℕ
       × (home ≡ storedUnder supply old (redoWrites (recordsFrom words log head tail)))
   unfolding redoWrites records
   redoing-end home left number s h =
-      let none = made-none left home (redoWrites (recordsFrom words log number tail)) (rw (read-none words log number tail h)) in
-      (sym (none .0) ∙ s .rest, sym (none .1) ∙ s .stores)
+      let none = under-none left home (redoWrites (recordsFrom words log number tail)) (rw (read-none words log number tail h)) in
+      (none .0 ∙ s .rest, none .1 ∙ s .stores)
 
   -- The pass backward after some turns: the stores of as many records, the last ones, are made.
   pub record Undoing (home : List ℕ) (left turn : ℕ) : Type 0 where
@@ -143,8 +136,8 @@ module _ (words : ℕ) (log : List ℕ) (head tail supply : ℕ) (old : List ℕ
   pub undoing-start : Undoing old supply 0
   unfolding undoWrites records
   undoing-start =
-      let none = made-none supply old (undoWrites (recordsFrom words log (tail - 0) tail)) (rw (read-none words log (tail - 0) tail (omega arith))) in
-      record { most = omega arith; rest = sym (none .0); stores = sym (none .1) }
+      let none = under-none supply old (undoWrites (recordsFrom words log (tail - 0) tail)) (rw (read-none words log (tail - 0) tail (omega arith))) in
+      record { most = omega arith; rest = none .0; stores = none .1 }
 
   -- one store on
   pub undoing-next : (last : List ℕ) → Lasts words log head tail last → (home next : List ℕ) (left less turn : ℕ) → Undoing home left turn
@@ -214,8 +207,8 @@ module _ (words : ℕ) (log : List ℕ) (found : Found) (s : Scanned words log f
   pub replay-damaged : found .bad ≡ true
       → (record { bad = true; tail = found .tail; left = c } ≡ replayed words c log) × (old ≡ storedUnder c old (replayStores words log))
   replay-damaged e =
-      let none = made-none c old (replayStores words log) (rw (← s .bad, e)) in
-      (same true c e (sym (none .0)), sym (none .1))
+      let none = under-none c old (replayStores words log) (rw (← s .bad, e)) in
+      (same true c e (none .0), none .1)
 
   -- all are good
   pub replay-all : found .bad ≡ false → (left : ℕ) (new : List ℕ) → left ≡ c - length (recoveryWrites (records (recordsOf words log)))

@@ -1,10 +1,10 @@
 -- A replay as its code goes: one reading of the log, then a pass forward and a pass backward over the records read.
 use Prim.Native.Nat.{ℕ, _+_, _-_, _≤_, _<_}
 use mathlib.Core.Path.{_≡_}
-use mathlib.Core.Bool.{Bool, cond, _||_}
+use mathlib.Core.Bool.{Bool, cond}
 use mathlib.Core.List.{List, [], _∷_}
 use lib.Dec.{ltb}
-use lib.ListN.{getD}
+use lib.ListN.{getD, set}
 use Rattle.log.specs.declared.Record.{Record}
 use Rattle.log.specs.declared.Record.the-variants.{UndoRedo, Redo, Commit}
 use Rattle.log.specs.declared.Reading.{Reading}
@@ -12,9 +12,9 @@ use Rattle.log.specs.declared.Reading.the-variants.{Good, Bad}
 use Rattle.log.specs.Stores.{Store}
 use Rattle.log.specs.Layout.{threadOf}
 use Rattle.log.specs.Holding.{Valid}
-use Rattle.log.specs.Region.{headOf, tailOf, readBack, readFrom, recordsOf}
+use Rattle.log.specs.Region.{headOf, tailOf, readFrom, recordsOf}
 use Rattle.model.specs.Lists.{any}
-use Rattle.model.specs.Steps.{isBad, isCommitOf}
+use Rattle.model.specs.Steps.{isBad}
 use Rattle.model.specs.Recovery.{closed, records}
 use Rattle.recovery.specs.declared.reading.Found.{Found}
 use Rattle.recovery.specs.declared.passes.Write.{Write}
@@ -37,12 +37,12 @@ abbrev pub Lasts : ℕ → List ℕ → ℕ → ℕ → List ℕ → Type 0
 Lasts words log head tail last =
     (t n : ℕ) → t < 8 → head ≤ n → n < tail → closedBy last n t ≡ closed t (recordsFrom words log (n + 1) tail)
 
--- what is found after the next record is read
-pub record Noted (words : ℕ) (log : List ℕ) (found next : Found) : Type 0 where
-  pub tail : next .tail ≡ found .tail + 1
-  pub bad : next .bad ≡ (found .bad || isBad (readBack words log (found .tail)))
-  pub last : (t : ℕ) → t < 8
-      → getD (next .last) t 0 ≡ cond (isCommitOf t (readBack words log (found .tail))) (found .tail) (getD (found .last) t 0)
+-- the number of each thread's last commit, once record n is read
+abbrev pub noted : ℕ → Reading → List ℕ → List ℕ
+noted n (Good (UndoRedo t w u r)) last = last
+noted n (Good (Redo t w r)) last = last
+noted n (Good (Commit t)) last = set last t n
+noted n Bad last = last
 
 -- what is found after all are read
 pub record Scanned (words : ℕ) (log : List ℕ) (found : Found) : Type 0 where

@@ -1,7 +1,8 @@
 // The reading of a recovery: every record once, from the head on.
-ghost use Prim.Native.Nat.{_<_};
-ghost use Rattle.log.specs.Region.{numbers};
-ghost use Rattle.recovery.specs.Recovering.{Noted, Scanned};
+ghost use mathlib.Core.Path.{_≡_};
+ghost use Rattle.log.specs.Region.{readBack};
+ghost use Rattle.model.specs.Steps.{isBad};
+ghost use Rattle.recovery.specs.Recovering.{noted, Scanned};
 use log::Reading;
 use log::Record;
 
@@ -12,15 +13,12 @@ pub struct Found {
     pub last: [u64; 8],
 }
 
-// The next record read.
-fn note(found: Found, log: &[u64], words: u16) -> Found
-    requires { ⌜ found .tail < numbers ⌝ }
-    ensures { λ (r : Found). ⌜ Noted words (now (log .entry)) found r ⌝ }
+// Reads a record, and notes it if it is a commit. Hands back whether it is bad.
+fn note(last: &mut [u64; 8], log: &[u64], number: u64, words: u16) -> bool
+    ensures { λ r. ⌜ r ≡ isBad (readBack words (now (log .entry)) number) ⌝ }
+    ensures { λ r. ⌜ now (last .exit) ≡ noted number (readBack words (now (log .entry)) number) (now (last .entry)) ⌝ }
 {
-    let number = found.tail;
     let reading = log::read(log, number, words);
-    let mut next = found;
-    next.tail = number + 1;
     match reading {
         Reading::Good(entry) => match entry {
             Record::UndoRedo {
@@ -28,22 +26,19 @@ fn note(found: Found, log: &[u64], words: u16) -> Found
                 word: _,
                 undo: _,
                 redo: _,
-            } => next,
+            } => false,
             Record::Redo {
                 thread: _,
                 word: _,
                 redo: _,
-            } => next,
+            } => false,
             Record::Commit { thread } => {
                 let t = thread as usize;
-                next.last[t] = number;
-                next
+                last[t] = number;
+                false
             }
         },
-        Reading::Bad => {
-            next.bad = true;
-            next
-        }
+        Reading::Bad => true,
     }
 }
 
@@ -51,18 +46,19 @@ fn note(found: Found, log: &[u64], words: u16) -> Found
 pub fn scan(log: &[u64], words: u16) -> Found
     ensures { λ (r : Found). ⌜ Scanned words (now (log .entry)) r ⌝ }
 {
-    let mut found = Found {
-        tail: log::head(log),
-        bad: false,
-        last: [0; 8],
-    };
+    let mut tail = log::head(log);
+    let mut bad = false;
+    let mut last = [0; 8];
     let mut left = log::slots(log);
-    while 0 < left {
-        if !log::is_written(log, found.tail) {
-            return found;
-        }
-        found = note(found, log, words);
+    while (0 < left) & log::is_written(log, tail) {
+        let wrong = note(&mut last, log, tail, words);
+        bad = bad | wrong;
+        tail += 1;
         left -= 1;
     }
-    found
+    Found {
+        tail: tail,
+        bad: bad,
+        last: last,
+    }
 }

@@ -5,7 +5,7 @@ use mathlib.Core.Bool.{Bool, true, false, cond}
 use mathlib.Core.List.{List, [], _∷_}
 use native.Mathlib.Nat.{sub-zero}
 use lib.Dec.{leb·zero}
-use Rattle.log.specs.Stores.{stored}
+use Rattle.log.proofs.Stored.{stored-none}
 use Rattle.model.specs.Machine.{Machine, Memory, lostMachine}
 use Rattle.model.specs.Plan.{putsOf, Plan, refused, planned, Outcome, homePart, logPart, written, performed, carriedOut}
 use Rattle.model.specs.Refusals.{Row, unless}
@@ -21,8 +21,8 @@ begin-carried : (c : ℕ) (m : Machine) (mem : Memory) (rows : List Row) (next :
     → carriedOut c m mem (m .tail) (unless rows (planned [] next (mem .working)))
     ≡ (let o = carriedOut 0 m (record { home = []; working = []; log = [] }) (m .tail) (unless rows (planned [] next [])) in
     record { answer = o .answer; left = c; machine = o .machine; memory = mem })
-unfolding carriedOut unless performed putsOf written homePart logPart stored
-begin-carried c m mem [] next = rw (leb·zero c, sub-zero c)
+unfolding carriedOut unless performed putsOf written homePart logPart
+begin-carried c m mem [] next = rw (leb·zero c, sub-zero c, stored-none (mem .home), stored-none (mem .log))
 begin-carried c m mem (r ∷ rows) next = pick (r .applies) (begin-carried c m mem rows next)
   where
     none : Memory

@@ -34,14 +34,14 @@ loop-holds : tie.Need-loop-holds Inv-loop μ-loop
 unfolding allLogged
 loop-holds c = (search needs, (omega arith, λ n h. refl))
 
-mul-set-state : tie.Need-mul-set-state Inv-loop μ-loop
-mul-set-state c = omega arith
+mul-mark : tie.Need-mul-mark Inv-loop μ-loop
+mul-mark c = omega arith
 
-element-copy-out-set-state : tie.Need-element-copy-out-set-state Inv-loop μ-loop
-element-copy-out-set-state c = omega arith
+element-copy-out-mark : tie.Need-element-copy-out-mark Inv-loop μ-loop
+element-copy-out-mark c = omega arith
 
-set-state-requires : tie.Need-set-state-requires Inv-loop μ-loop
-set-state-requires c κs = (omega arith, c .before .before .before .loop .inv .0 .states)
+mark-requires : tie.Need-mark-requires Inv-loop μ-loop
+mark-requires c κs = search needs
 
 add-i : tie.Need-add-i Inv-loop μ-loop
 add-i c = omega arith
@@ -53,15 +53,15 @@ loop-again : tie.Need-loop-again Inv-loop μ-loop
 loop-again c =
     let l = c .before .before .before .before .loop in
     let a = c .before .before .before .before .before .before .before .args in
-    let after = c .set-state .last .0 in
+    let after = c .mark .last .0 in
     let whole = l .inv .0 in (
-      record { holders = whole .holders; dirty = whole .dirty; states = ap length (c .set-state .ensures) ∙ simp length-set (whole .states) },
+      record { holders = whole .holders; dirty = whole .dirty; states = ap length (c .mark .ensures (whole .states)) ∙ simp length-set (whole .states) },
       (
         omega arith,
         λ n h.
             logged-more (a .t2) (l .i) (firstLines n (a .lines)) (firstLines n (l .marked)) (firstLines n (withStates after (l .marked))) (omega arith)
             (l .inv .1 .1 n h)
-            (ap (λ (ss : List ℕ). firstLines n (withStates ss (l .marked))) (c .set-state .ensures)
+            (ap (λ (ss : List ℕ). firstLines n (withStates ss (l .marked))) (c .mark .ensures (whole .states))
             ∙ first-marked n (l .marked) (entryAt (a .t2) (l .i) .word) 2 whole h),
       ),
     )
@@ -84,9 +84,9 @@ all-logged-spec =
     returns
     least-requires
     loop-holds
-    mul-set-state
-    element-copy-out-set-state
-    set-state-requires
+    mul-mark
+    element-copy-out-mark
+    mark-requires
     add-i
     loop-less
     loop-again

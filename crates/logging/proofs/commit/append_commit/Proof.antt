@@ -1,27 +1,49 @@
 -- `append_commit` meets its contract: nothing is appended, or its four parts one after the other.
 use Prim.Native.Nat.{_<_}
+use mathlib.Core.Bool.{Bool}
+use mathlib.Core.List.{List}
 use native.Mathlib.Omega.{arith}
 use borrow.Author.Needs.{needs}
 use lib.ListN.{length}
 use Rattle.log.specs.Region.{numbers}
 use Rattle.log.proofs.Stored.{under-none}
+use Rattle.parts.specs.declared.Buffer.{Buffer}
+use Rattle.parts.specs.declared.Lines.{Lines}
+use Rattle.logging.specs.Newest.{linesOf}
+use Rattle.logging.specs.Records.{bufferOf}
 use Rattle.logging.proofs.Guards.{Fitting, commit-none, commit-known}
 use Rattle.logging.proofs.WholeCommit.{commit-appended}
 use Rattle.logging.proofs.commit.append_commit.Statement.{statement}
 use Rattle.logging.proofs.commit.append_commit.Tie as tie
 
+-- what is lent
+abbrev undo-buffer : tie.Start → Buffer
+undo-buffer c =
+    let a = c .args in
+    bufferOf (a .undos) (a .undo-threads .now) (a .undo-words .now) (a .undo-undos .now) (a .undo-redos .now)
+
+abbrev redo-buffer : tie.Start → Buffer
+redo-buffer c =
+    let a = c .args in
+    bufferOf (a .redos) (a .redo-threads .now) (a .redo-words .now) (a .redo-undos .now) (a .redo-redos .now)
+
+abbrev lines : tie.Start → List Bool → Lines
+lines c dirty = linesOf (c .args .holders .now) dirty (c .args .states .now)
+
 returns : tie.Need-returns
-returns c =
-    let a = c .before .before .before .before .before .args in
-    under-none (a .supply) (a .log .now) _ (commit-none (a .undos) (a .redos) (a .lines) (a .working .now) (a .thread) _ (a .number) (c .if1 .taken))
+returns c dirty =
+    let s = c .before .before .before in
+    let a = s .args in
+    under-none (a .supply) (a .log .now) _
+    (commit-none (undo-buffer s) (redo-buffer s) (lines s dirty) (a .working .now) (a .thread) _ (a .number) (c .if1 .taken))
 
 -- the sizes where something is appended
 known : (c : tie.Else1)
-    → let a = c .before .before .before .before .before .args in
-    (a .number < numbers) × Fitting (a .undos) (a .redos) (length (a .working .now))
+    → let s = c .before .before .before in
+    (s .args .number < numbers) × Fitting (undo-buffer s) (redo-buffer s) (length (s .args .working .now))
 known c =
-    let a = c .before .before .before .before .before .args in
-    commit-known (a .number) (a .undos) (a .redos) (length (a .working .now)) (c .if1 .left)
+    let s = c .before .before .before in
+    commit-known (s .args .number) (undo-buffer s) (redo-buffer s) (length (s .args .working .now)) (c .if1 .left)
 
 add-second : tie.Need-add-second
 add-second c = let k = known c in omega arith
@@ -29,11 +51,11 @@ add-second c = let k = known c in omega arith
 add-third : tie.Need-add-third
 add-third c = let k = known c in omega arith
 
-append-oldest-requires : tie.Need-append-oldest-requires
-append-oldest-requires c κs = search needs
+append-entries-requires : tie.Need-append-entries-requires
+append-entries-requires c κs = search needs
 
-append-oldest-requires-2 : tie.Need-append-oldest-requires-2
-append-oldest-requires-2 c κs = search needs
+append-entries-requires-2 : tie.Need-append-entries-requires-2
+append-entries-requires-2 c κs = search needs
 
 append-newest-requires : tie.Need-append-newest-requires
 append-newest-requires c κs = let k = known (c .before .before .before .before .before .before .before .before .before) in omega arith
@@ -45,17 +67,19 @@ same-length : tie.Need-same-length
 same-length c = search needs
 
 returns-2 : tie.Need-returns-2
-returns-2 c =
+returns-2 c dirty =
     let fourth = c .before .before .append in
     let newest = c .before .before .before .before .before .before in
     let second = newest .before .before .before .before in
     let first = second .before .before .before .before in
     let passed = first .before .before in
-    let a = passed .before .before .before .before .before .args in
-    commit-appended (a .undos) (a .redos) (a .lines) (a .working .now) (a .thread) (a .supply) (a .number) (a .log .now)
-    (first .append-oldest .last .0) (second .append-oldest2 .last .0) (newest .append-newest .last .0) (fourth .last .0)
-    (first .append-oldest .result) (second .append-oldest2 .result) (newest .append-newest .result .number) (newest .append-newest .result .left)
-    (fourth .result) (known passed .1) (first .append-oldest .ensures) (second .append-oldest2 .ensures) (newest .append-newest .ensures) (fourth .ensures)
+    let s = passed .before .before .before in
+    let a = s .args in
+    commit-appended (undo-buffer s) (redo-buffer s) (lines s dirty) (a .working .now) (a .thread) (a .supply) (a .number) (a .log .now)
+    (first .append-entries .last .0) (second .append-entries2 .last .0) (newest .append-newest .last .0) (fourth .last .0)
+    (first .append-entries .result) (second .append-entries2 .result) (newest .append-newest .result .number) (newest .append-newest .result .left)
+    (fourth .result) (known passed .1) (first .append-entries .ensures) (second .append-entries2 .ensures) (newest .append-newest .ensures dirty)
+    (fourth .ensures)
 
 pub append-commit-spec : {M : Type 1} → statement M
 append-commit-spec =
@@ -64,8 +88,8 @@ append-commit-spec =
     returns
     add-second
     add-third
-    append-oldest-requires
-    append-oldest-requires-2
+    append-entries-requires
+    append-entries-requires-2
     append-newest-requires
     append-requires
     same-length

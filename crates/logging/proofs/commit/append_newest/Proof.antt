@@ -1,14 +1,14 @@
 -- `append_newest` meets its contract. Before each turn the records of the lines passed are appended.
 use Prim.Native.Nat.{ℕ, _+_, _-_, _*_, _≤_, _<_}
-use mathlib.Core.List.{List, map-append}
+use mathlib.Core.Bool.{Bool}
+use mathlib.Core.List.{List, [], map-append}
 use mathlib.Core.Path.{_≡_}
 use native.Mathlib.Omega.{arith}
 use borrow.Author.Needs.{needs}
 use lib.ListN.{length-map, length}
 use Rattle.parts.specs.declared.Lines.{Lines}
 use Rattle.parts.specs.Lines.{lineAt, firstLines}
-use Rattle.parts.proofs.FirstLines.{WholeLines}
-use Rattle.logging.specs.Newest.{newestInLine, redosOf, newestWords}
+use Rattle.logging.specs.Newest.{linesOf, newestInLine, redosOf, newestWords}
 use Rattle.logging.specs.Progressed.{Progressed}
 use Rattle.logging.proofs.NewestWords.{newest-nothing, newest-line, newest-few}
 use Rattle.logging.proofs.Progressing.{progressed-none, progressed-then, progressed-length}
@@ -16,13 +16,13 @@ use Rattle.logging.proofs.commit.append_newest.Statement.{statement}
 use Rattle.logging.proofs.commit.append_newest.Tie as tie
 
 abbrev Inv-loop : tie.InvT-loop
-Inv-loop log₀ working thread n lines next₀ i₀ log next i =
-    WholeLines lines ×
-    ((i ≤ n) ×
-    Progressed (next₀ .left) log₀ (next₀ .number) (redosOf working thread (newestWords (firstLines n lines) thread (8 * i))) log (next .number) (next .left))
+Inv-loop log₀ working thread holders states n next₀ i₀ log next i =
+    (i ≤ n) ×
+    ((dirty : List Bool) → Progressed (next₀ .left) log₀ (next₀ .number)
+    (redosOf working thread (newestWords (firstLines n (linesOf holders dirty states)) thread (8 * i))) log (next .number) (next .left))
 
 abbrev μ-loop : tie.MeasureT-loop
-μ-loop log₀ working thread n lines next₀ i₀ log next i = n - i
+μ-loop log₀ working thread holders states n next₀ i₀ log next i = n - i
 
 -- one line more
 more : (working before between after : List ℕ) (ls : Lines) (t p i c n k m next rest : ℕ) → i < p
@@ -36,13 +36,8 @@ more working before between after ls t p i c n k m next rest h first second =
 
 loop-holds : tie.Need-loop-holds Inv-loop μ-loop
 loop-holds c =
-    let a = c .before .before .args in (
-      search needs,
-      (
-        omega arith,
-        rw (newest-nothing (firstLines (a .n) (a .t4)) (a .thread)) (progressed-none (a .at .left) (a .log .now) (a .at .number)),
-      ),
-    )
+    let a = c .before .before .args in
+    (omega arith, λ dirty. rw newest-nothing (progressed-none (a .at .left) (a .log .now) (a .at .number)))
 
 element-copy-out-append-line : tie.Need-element-copy-out-append-line Inv-loop μ-loop
 element-copy-out-append-line c = omega arith
@@ -57,10 +52,10 @@ append-line-requires : tie.Need-append-line-requires Inv-loop μ-loop
 append-line-requires c κs =
     let l = c .before .before .before .before .loop in
     let a = c .before .before .before .before .before .before .before .args in
-    let ws = newestWords (firstLines (a .n) (a .t4)) (a .thread) (8 * l .i) in
-    let few : length (redosOf (a .working .now) (a .thread) ws) ≤ 8 * l .i =
-    rw length-map (newest-few (firstLines (a .n) (a .t4)) (a .thread) (8 * l .i)) in
-    (omega arith, (omega arith, omega (arith, l .inv .1 .1 .number)))
+    let lines = firstLines (a .n) (linesOf (a .holders .now) [] (a .states .now)) in
+    let few : length (redosOf (a .working .now) (a .thread) (newestWords lines (a .thread) (8 * l .i))) ≤ 8 * l .i =
+    rw length-map (newest-few lines (a .thread) (8 * l .i)) in
+    (omega arith, (omega arith, omega (arith, l .inv .1 [] .number)))
 
 add-i : tie.Need-add-i Inv-loop μ-loop
 add-i c = omega arith
@@ -73,19 +68,17 @@ loop-again c =
     let l = c .before .before .before .before .before .before .before .loop in
     let a = c .before .before .before .before .before .before .before .before .before .before .args in
     let r = c .before .before .append-line in (
-      l .inv .0,
-      (
-        omega arith,
-        more (a .working .now) (a .log .now) (l .log) (r .last .0) (a .t4) (a .thread) (a .n) (l .i) (a .at .left) (a .at .number)
-            (l .next .left) (l .next .number) (r .result .number) (r .result .left) (omega arith) (l .inv .1 .1) (r .ensures),
-      ),
+      omega arith,
+      λ dirty.
+          more (a .working .now) (a .log .now) (l .log) (r .last .0) (linesOf (a .holders .now) dirty (a .states .now)) (a .thread) (a .n) (l .i)
+          (a .at .left) (a .at .number) (l .next .left) (l .next .number) (r .result .number) (r .result .left) (omega arith) (l .inv .1 dirty) (r .ensures),
     )
 
 same-length : tie.Need-same-length Inv-loop μ-loop
-same-length c = progressed-length (c .before .loop .inv .1 .1)
+same-length c = progressed-length (c .before .loop .inv .1 [])
 
 returns : tie.Need-returns Inv-loop μ-loop
-returns c = let e : c .before .loop .i ≡ c .before .before .before .before .args .n = omega arith in rw e at (c .before .loop .inv .1 .1)
+returns c dirty = let e : c .before .loop .i ≡ c .before .before .before .before .args .n = omega arith in rw e at (c .before .loop .inv .1 dirty)
 
 pub append-newest-spec : {M : Type 1} → statement M
 append-newest-spec =

@@ -1,23 +1,24 @@
 -- `count_newest` meets its contract. Before each turn those in the lines passed are counted.
 use Prim.Native.Nat.{ℕ, _+_, _-_, _*_, _≤_, _<_, min}
 use mathlib.Core.Path.{ap, _≡_, sym, _∙_}
+use mathlib.Core.Bool.{Bool}
+use mathlib.Core.List.{List, []}
 use native.Mathlib.Omega.{arith}
 use borrow.Author.Needs.{needs}
 use lib.ListN.{length-append, length}
 use Rattle.parts.specs.declared.Lines.{Lines}
 use Rattle.parts.specs.Lines.{lineAt, firstLines}
-use Rattle.parts.proofs.FirstLines.{WholeLines}
-use Rattle.logging.specs.Newest.{newestInLine, newestWords}
+use Rattle.logging.specs.Newest.{linesOf, newestInLine, newestWords}
 use Rattle.logging.proofs.NewestWords.{newest-nothing, newest-line, newest-few}
 use Rattle.logging.proofs.newest.count_newest.Statement.{statement}
 use Rattle.logging.proofs.newest.count_newest.Tie as tie
 
 abbrev Inv-loop : tie.InvT-loop
-Inv-loop n thread lines end count₀ i₀ count i =
-    WholeLines lines × ((i ≤ end) × ((end ≡ min n 64) × (count ≡ length (newestWords (firstLines end lines) thread (8 * i)))))
+Inv-loop holders states n thread end count₀ i₀ count i =
+    (i ≤ end) × ((end ≡ min n 64) × ((dirty : List Bool) → count ≡ length (newestWords (firstLines end (linesOf holders dirty states)) thread (8 * i))))
 
 abbrev μ-loop : tie.MeasureT-loop
-μ-loop n thread lines end count₀ i₀ count i = end - i
+μ-loop holders states n thread end count₀ i₀ count i = end - i
 
 -- one line more
 more : (ls : Lines) (n t i count r : ℕ) → i < n → count ≡ length (newestWords (firstLines n ls) t (8 * i))
@@ -32,9 +33,7 @@ least-requires : tie.Need-least-requires Inv-loop μ-loop
 least-requires c κs = search needs
 
 loop-holds : tie.Need-loop-holds Inv-loop μ-loop
-loop-holds c =
-    let a = c .before .args in
-    (search needs, (omega arith, (c .least .ensures, ap length (sym (newest-nothing (firstLines (c .least .result) (a .t1)) (a .thread))))))
+loop-holds c = let a = c .before .args in (omega arith, (c .least .ensures, λ dirty. ap length (sym (newest-nothing _ (a .thread)))))
 
 element-copy-out-count-line : tie.Need-element-copy-out-count-line Inv-loop μ-loop
 element-copy-out-count-line c = omega arith
@@ -49,22 +48,23 @@ count-line-requires : tie.Need-count-line-requires Inv-loop μ-loop
 count-line-requires c κs = search needs
 
 -- the count after a line
-counted : (c : tie.After-count-line Inv-loop μ-loop)
+counted : (c : tie.After-count-line Inv-loop μ-loop) (dirty : List Bool)
     → let l = c .before .before .before .before in
     let a = l .before .before .args in
     l .loop .count + c .count-line .result
-    ≡ length (newestWords (firstLines (l .before .least .result) (a .t1)) (a .thread) (8 * (l .loop .i + 1)))
-counted c =
+    ≡ length (newestWords (firstLines (l .before .least .result) (linesOf (a .holders .now) dirty (a .states .now))) (a .thread) (8 * (l .loop .i + 1)))
+counted c dirty =
     let l = c .before .before .before .before in
     let a = l .before .before .args in
-    more (a .t1) (l .before .least .result) (a .thread) (l .loop .i) (l .loop .count) (c .count-line .result) (omega arith)
-    (l .loop .inv .1 .1 .1) (c .count-line .ensures)
+    more (linesOf (a .holders .now) dirty (a .states .now)) (l .before .least .result) (a .thread) (l .loop .i) (l .loop .count) (c .count-line .result)
+    (omega arith) (l .loop .inv .1 .1 dirty) (c .count-line .ensures)
 
 add-count : tie.Need-add-count Inv-loop μ-loop
 add-count c =
     let l = c .before .before .before .before in
     let a = l .before .before .args in
-    omega (arith, counted c, newest-few (firstLines (l .before .least .result) (a .t1)) (a .thread) (8 * (l .loop .i + 1)))
+    let few = newest-few (firstLines (l .before .least .result) (linesOf (a .holders .now) [] (a .states .now))) (a .thread) (8 * (l .loop .i + 1)) in
+    omega (arith, counted c [], few)
 
 add-i : tie.Need-add-i Inv-loop μ-loop
 add-i c = omega arith
@@ -73,13 +73,13 @@ loop-less : tie.Need-loop-less Inv-loop μ-loop
 loop-less c = omega arith
 
 loop-again : tie.Need-loop-again Inv-loop μ-loop
-loop-again c = let l = c .before .before .before .before .loop in (l .inv .0, (omega arith, (l .inv .1 .1 .0, counted c)))
+loop-again c = let l = c .before .before .before .before .loop in (omega arith, (l .inv .1 .0, counted c))
 
 returns : tie.Need-returns Inv-loop μ-loop
-returns c =
+returns c dirty =
     let l = c .before .loop in
     let e : l .i ≡ c .before .before .least .result = omega arith in
-    rw (← l .inv .1 .1 .0) (rw e at (l .inv .1 .1 .1))
+    rw (← l .inv .1 .0) (rw e at (l .inv .1 .1 dirty))
 
 pub count-newest-spec : {M : Type 1} → statement M
 count-newest-spec =

@@ -9,7 +9,7 @@ use borrow.Author.Needs.{needs}
 use borrow.Author.Tests.{lt-ltb, ltb-false}
 use lib.Dec.{ltb}
 use lib.ListN.{getD, set}
-use Rattle.log.specs.Stores.{stored}
+use Rattle.log.proofs.Stored.{stored-none}
 use Rattle.model.specs.Machine.{Machine, withOpened, isOpen}
 use Rattle.model.specs.Consistent.{consistent}
 use Rattle.model.specs.Plan.{putsOf, planned}
@@ -51,13 +51,14 @@ begin-refused m t n e some =
 begin-done : (m : Machine) (t n : ℕ) → n ≡ numberOf (rows m t) → n ≡ 0
     → record { answer = 0; left = 0; machine = withOpened (set (m .opened) (t % 8) true) m; memory = memory [] [] [] }
     ≡ stepped (begin t) 0 m (memory [] [] [])
-unfolding putsOf stored
+unfolding putsOf
 begin-done m t n e zero =
     let none = none-apply (rows m t) (omega arith, (omega arith, (omega arith, (omega arith, tt)))) (sym e ∙ zero) in
     let known : t ≤ 7 = ltb-false 7 t (none .1 .1 .0) in
     let f : t % 8 ≡ t = omega arith in
     rw f
-    (sym (outcome-done (begin t) 0 m (memory [] [] []) (rows m t) [] (withOpened (set (m .opened) t true) m) [] (plan m t) [] [] none refl (omega arith)))
+    (sym (rw stored-none at
+    (outcome-done (begin t) 0 m (memory [] [] []) (rows m t) [] (withOpened (set (m .opened) t true) m) [] (plan m t) [] [] none refl (omega arith))))
 
 is-consistent-requires : tie.Need-is-consistent-requires
 is-consistent-requires c κs = search needs

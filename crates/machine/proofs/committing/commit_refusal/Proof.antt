@@ -4,9 +4,6 @@ use Rattle.machine.proofs.Commits.{commit-number}
 use Rattle.machine.proofs.committing.commit_refusal.Statement.{statement}
 use Rattle.machine.proofs.committing.commit_refusal.Tie as tie
 
-element-copy-out-idle : tie.Need-element-copy-out-idle
-element-copy-out-idle c = search needs
-
 no-room-requires : tie.Need-no-room-requires
 no-room-requires c κs = search needs
 
@@ -17,13 +14,11 @@ refuse-requires-2 : tie.Need-refuse-requires-2
 refuse-requires-2 c κs = search needs
 
 returns : tie.Need-returns
-returns c =
-    let a = c .before .before .before .before .args in
-    λ rs e.
+returns c m rs has e =
+    let a = c .before .before .before .args in
     rw (c .refuse2 .ensures, c .before .refuse .ensures, c .before .before .no-room .ensures)
-    (commit-number (a .t1) (a .thread) (a .count) rs e)
+    (commit-number (a .opened) (a .slots) (a .head) (a .tail) (a .thread) (a .count) m rs has e)
 
 pub commit-refusal-spec : {M : Type 1} → statement M
 commit-refusal-spec =
-    tie.close
-    (tie.spec element-copy-out-idle no-room-requires refuse-requires refuse-requires-2 returns)
+    tie.close (tie.spec no-room-requires refuse-requires refuse-requires-2 returns)

@@ -1,15 +1,26 @@
 -- `committed` meets its contract.
 use Prim.Native.Nat.{_/_}
-use mathlib.Core.Path.{_∙_}
+use mathlib.Core.Path.{_≡_, _∙_, ap}
+use mathlib.Core.List.{List, map}
 use native.Mathlib.Omega.{arith}
 use borrow.Author.Needs.{needs}
+use lib.ListN.{length, take}
+use lib.Seq.{take-all}
+use Rattle.parts.specs.declared.Entry.{Entry}
+use Rattle.parts.specs.declared.Line.{Line}
+use Rattle.parts.specs.Lines.{firstLines}
+use Rattle.parts.specs.Waiting.{entryAt, waiting}
+use Rattle.parts.proofs.Listed.{length-listed}
+use Rattle.model.specs.Machine.{allLogged}
+use Rattle.model.specs.Steps.{released}
 use Rattle.line_walks.proofs.ReleasedLines.{released-all}
+use Rattle.line_walks.proofs.WordStates.{oldest-all}
 use Rattle.machine.proofs.Commits.{commit-next}
 use Rattle.machine.proofs.committing.committed.Statement.{statement}
 use Rattle.machine.proofs.committing.committed.Tie as tie
 
-undos-logged-requires : tie.Need-undos-logged-requires
-undos-logged-requires c κs = search needs
+all-logged-requires : tie.Need-all-logged-requires
+all-logged-requires c κs = search needs
 
 cast-release : tie.Need-cast-release
 cast-release c = search needs
@@ -17,32 +28,34 @@ cast-release c = search needs
 release-requires : tie.Need-release-requires
 release-requires c κs = search needs
 
-empty-requires : tie.Need-empty-requires
-empty-requires c κs = search needs
+element-write-state : tie.Need-element-write-state
+element-write-state c = search needs
 
-element-write-next : tie.Need-element-write-next
-element-write-next c = search needs
-
-add-next : tie.Need-add-next
-add-next c = search needs
+add-state : tie.Need-add-state
+add-state c = search needs
 
 returns : tie.Need-returns
 returns c =
-    let logged = c .before .before .before .before .before .undos-logged in
     let a = c .before .before .before .before .before .before .args in
-    commit-next (a .state) (logged .result) (c .before .before .release .result) (c .before .empty .result) (a .thread) (a .count)
-    (logged .ensures)
-    (c .before .before .release .ensures (a .state .words / 8) (omega arith) ∙ released-all (a .thread) (a .state .words / 8) (logged .result .lines))
-    (c .before .empty .ensures)
+    let s = a .t1 in
+    let n = s .words / 8 in
+    let marked = c .before .before .before .all-logged in
+    let size : length (waiting (s .undos)) ≡ s .undos .len = length-listed (s .undos .len) (entryAt (s .undos)) in
+    let all : take (s .undos .len) (waiting (s .undos)) ≡ waiting (s .undos) = take-all (s .undos .len) (waiting (s .undos)) (omega arith) in
+    let logged : firstLines n (marked .result) ≡ allLogged (waiting (s .undos)) (firstLines n (s .lines)) =
+    marked .ensures n (omega arith)
+    ∙ ap (λ (es : List Entry). allLogged es (firstLines n (s .lines))) (oldest-all (s .undos .len) (s .undos) (omega arith) ∙ all) in
+    commit-next s (c .before .before .release .result) (a .thread) (a .count)
+    (c .before .before .release .ensures n (omega arith) ∙ released-all (a .thread) n (marked .result)
+    ∙ ap (λ (ls : List Line). map (released (a .thread)) ls) logged)
 
 pub committed-spec : {M : Type 1} → statement M
 committed-spec =
     tie.close
     (tie.spec
-    undos-logged-requires
+    all-logged-requires
     cast-release
     release-requires
-    empty-requires
-    element-write-next
-    add-next
+    element-write-state
+    add-state
     returns)

@@ -1,8 +1,10 @@
 -- `count_records` meets its contract.
 use Prim.Native.Nat.{_*_, _/_, _≤_, min}
+use mathlib.Core.List.{[]}
 use native.Mathlib.Omega.{arith}
 use borrow.Author.Needs.{needs}
 use Rattle.parts.specs.Lines.{firstLines}
+use Rattle.logging.specs.Newest.{linesOf}
 use Rattle.logging.proofs.NewestWords.{newest-few}
 use Rattle.machine.proofs.Commits.{commit-count}
 use Rattle.machine.proofs.committing.count_records.Statement.{statement}
@@ -18,11 +20,16 @@ add-result : tie.Need-add-result
 add-result c = search needs
 
 -- at most as many ULog words as words
-few : (c : tie.After-struct-known2) → c .before .count-newest .result ≤ 512
+few : (c : tie.After-count-newest) → c .count-newest .result ≤ 512
 few c =
-    let a = c .before .before .before .before .args in
-    let n = min (a .state .words / 8) 64 in
-    omega (arith, newest-few (firstLines n (a .state .lines)) (a .thread) (8 * n), c .before .count-newest .ensures, c .before .before .before .before .pre)
+    let a = c .before .args in
+    let n = min (a .words / 8) 64 in
+    omega (
+      arith,
+      newest-few (firstLines n (linesOf (a .holders .now) [] (a .states .now))) (a .thread) (8 * n),
+      c .count-newest .ensures [],
+      c .before .pre,
+    )
 
 add-result-2 : tie.Need-add-result-2
 add-result-2 c = omega (arith, few c)
@@ -32,10 +39,13 @@ add-result-3 c = omega (arith, few c)
 
 returns : tie.Need-returns
 returns c =
-    let a = c .before .before .before .before .args in
-    let p = c .before .before .before .before .pre in
-    let n = c .before .count-newest in
-    (λ mem. commit-count (a .state) mem (a .thread) (n .result) (p .0) (p .1 .0) (n .ensures), omega (arith, few c))
+    let a = c .before .args in
+    let p = c .before .pre in
+    let n = c .count-newest in (
+      λ s has mem.
+          commit-count (a .undos) (a .redos) (a .words) (a .holders .now) (a .states .now) s mem (a .thread) (n .result) has (p .0) (p .1 .0) (n .ensures),
+      omega (arith, few c),
+    )
 
 pub count-records-spec : {M : Type 1} → statement M
 count-records-spec =

@@ -12,10 +12,10 @@ dirty-of-requires : tie.Need-dirty-of-requires
 dirty-of-requires c κs = search needs
 
 returns : tie.Need-returns
-returns c =
+returns c ls same =
     let a = c .before .before .before .args in
     let inside : a .word / 8 < a .words / 8 = omega arith in
-    rw (c .before .has-commit .ensures, c .dirty-of .ensures (a .words / 8) (omega arith) inside)
+    rw (c .before .has-commit .ensures, c .dirty-of .ensures ls same (a .words / 8) inside)
 
 pub is-kept-spec : {M : Type 1} → statement M
 is-kept-spec = tie.close (tie.spec has-commit-requires dirty-of-requires returns)

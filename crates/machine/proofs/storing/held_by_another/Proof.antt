@@ -10,7 +10,7 @@ cast-holder : tie.Need-cast-holder
 cast-holder c = search needs
 
 returns : tie.Need-returns
-returns c n h l = simp (c .holder-of .ensures n h l)
+returns c ls same n below = simp (c .holder-of .ensures ls same n below)
 
 pub held-by-another-spec : {M : Type 1} → statement M
 held-by-another-spec = tie.close (tie.spec holder-of-requires cast-holder returns)

@@ -1,67 +1,291 @@
 -- `next_state` is the model's state after a store. Assumes nothing.
 use borrow.Author.Needs.{needs}
-use Prim.Native.Nat.{_/_}
+use borrow.Author.Tests.{eq-eqb, ne-eqb}
+use Prim.Native.Nat.{_/_, _≤_, _<_}
+use mathlib.Core.Path.{_≡_, refl, sym, _∙_}
+use mathlib.Core.Bool.{true, false}
+use mathlib.Core.Logic.{⊎-elim}
 use native.Mathlib.Omega.{arith}
 use lib.Dec.{eqb}
+use Rattle.parts.specs.declared.Entry.{Entry}
+use Rattle.parts.specs.declared.Lines.{Lines}
 use Rattle.parts.specs.Lines.{firstLines}
+use Rattle.parts.specs.Waiting.{waiting, discarded}
+use Rattle.parts.proofs.FirstLines.{WholeLines}
+use Rattle.parts.proofs.Waiting.{WholeBuffer, changed-within}
+use Rattle.parts.proofs.Places.{place-within}
+use Rattle.model.specs.Machine.{changed, heldBy, dirtyAs, stateIn}
+use Rattle.model.specs.Steps.{undosLogged}
+use Rattle.machine.specs.declared.State.{State}
 use Rattle.machine.specs.View.{view}
-use Rattle.machine.proofs.Filing.{logs-most, waiting-length, logged-limits, next-same, next-other}
+use Rattle.line_walks.proofs.WordStates.{first-marked}
+use Rattle.machine.proofs.Filing.{logs-most, logs-none, none-logged, waiting-length, logged-limits, next-same, next-other}
+use Rattle.machine.proofs.Filing.{held-lines, dirty-lines, whole-dirty, Ready, filed-first, filed-dirty, filed-logged, filed-last, discarded-none, amended-put}
 use Rattle.machine.proofs.storing.next_state.Statement.{statement}
 use Rattle.machine.proofs.storing.next_state.Tie as tie
+use Rattle.machine.proofs.storing.next_state.Lts as lts
+
+-- the arrays of the state have their places
+whole-lines : (c : tie.Start) → WholeLines (c .args .t1 .lines)
+whole-lines c = search needs
+
+whole-buffer : (c : tie.Start) → WholeBuffer (c .args .t1 .undos)
+whole-buffer c = search needs
+
+result-lines : (r : State) → lts.r·3 .is .Ok tt r → WholeLines (r .lines)
+result-lines r ok = search needs
+
+result-buffer : (r : State) → lts.r·3 .is .Ok tt r → WholeBuffer (r .undos)
+result-buffer r ok = search needs
+
+cast-line : tie.Need-cast-line
+cast-line c = search needs
 
 state-of-requires : tie.Need-state-of-requires
 state-of-requires c κs = search needs
 
-claimed-requires : tie.Need-claimed-requires
-claimed-requires c κs = search needs
+put-holder-requires : tie.Need-put-holder-requires
+put-holder-requires c κs = search needs
 
 returns : tie.Need-returns
 returns c mem was =
-    let s = c .before .before .before .before .args .state in
-    let e = c .before .before .before .before .args .entry in
-    next-same (view s) mem (e .thread) (e .word) (e .redo) (eqb (e .redo) (e .undo)) (firstLines (s .words / 8) (c .before .claimed .result))
-    (c .before .claimed .ensures (s .words / 8) (omega arith)) (c .if1 .taken)
+    let s = c .before .before .before .before .before .before .before .before .args .t1 in
+    let e = c .before .before .before .before .before .before .before .before .args .entry in
+    let whole = whole-lines (c .before .before .before .before .before .before .before .before) in
+    next-same (view s) mem (e .thread) (e .word) (e .redo) (eqb (e .redo) (e .undo))
+    (firstLines (s .words / 8) (record { holders = c .before .before .put-holder .last .0; dirty = s .lines .dirty; states = s .lines .states }))
+    (eq-eqb (e .redo) (e .undo) (c .if1 .taken))
+    (held-lines (s .words / 8) (s .lines) (e .word / 8) (e .thread) (c .before .before .put-holder .last .0) whole (omega arith) (c .before .before .put-holder .ensures))
 
-made-room-requires : tie.Need-made-room-requires
-made-room-requires c κs =
-    let p = c .before .before .before .before .pre in
-    let s = c .before .before .before .before .args .state in
-    let e = c .before .before .before .before .args .entry in
-    let few = logs-most (view s) (e .word) (eqb (e .redo) (e .undo)) in
-    let len = waiting-length (s .undos) in
+put-flag-requires : tie.Need-put-flag-requires
+put-flag-requires c κs = search needs
+
+-- another value comes, and the line is claimed
+module _ (c : tie.After-put-flag) where
+  abbrev start : tie.Start
+  start = c .before .before .before .before .before .before .before .before .before .before
+
+  abbrev s : State
+  s = start .args .t1
+
+  abbrev e : Entry
+  e = start .args .entry
+
+  abbrev lines : Lines
+  lines = record { holders = c .before .before .before .before .put-holder .last .0; dirty = c .put-flag .last .0; states = s .lines .states }
+
+  abbrev claimed : State
+  claimed =
+      record {
+        lost = s .lost;
+        words = s .words;
+        slots = s .slots;
+        head = s .head;
+        tail = s .tail;
+        opened = s .opened;
+        lines = lines;
+        undos = s .undos;
+        redos = s .redos;
+      }
+
+  whole : WholeLines (s .lines)
+  whole = whole-lines start
+
+  whole-undos : WholeBuffer (s .undos)
+  whole-undos = whole-buffer start
+
+  whole-claimed : WholeLines lines
+  whole-claimed =
+      whole-dirty 64 (s .lines) (e .word / 8) (e .thread) (c .before .before .before .before .put-holder .last .0) whole (omega arith) (c .before .before .before .before .put-holder .ensures)
+      (c .put-flag .last .0) (c .put-flag .ensures)
+
+  differs : eqb (e .redo) (e .undo) ≡ false
+  differs = ne-eqb (e .redo) (e .undo) (c .before .before .if1 .left)
+
+  claim : firstLines (s .words / 8) lines ≡ changed (λ line. dirtyAs true (heldBy (e .thread) line)) (e .word / 8) (firstLines (s .words / 8) (s .lines))
+  claim =
+      let p = start .pre in
+      dirty-lines (s .words / 8) (s .lines) (e .word / 8) (e .thread) (c .before .before .before .before .put-holder .last .0) whole (omega arith)
+      (c .before .before .before .before .put-holder .ensures) (c .put-flag .last .0) (c .put-flag .ensures)
+
+  kind : c .before .before .before .before .before .before .state-of .result ≡ stateIn (view s .lines) (e .word)
+  kind =
+      let p = start .pre in
+      c .before .before .before .before .before .before .state-of .ensures (s .lines) refl (s .words / 8) (omega arith)
+
+  -- a word that isn't Clean: no entry was logged first
+  none-first : (c .before .before .before .before .before .before .state-of .result ≡ 0 → ⊥) → view claimed ≡ undosLogged (start .args .count) (view claimed)
+  none-first ne =
+      none-logged (view claimed) (start .args .count)
+      (logs-none (view s) (e .word) (eqb (e .redo) (e .undo)) (c .before .before .before .before .before .before .state-of .result) (start .args .count) differs kind ne (start .pre .1 .1))
+
+undos-logged-requires : tie.Need-undos-logged-requires
+undos-logged-requires c κs =
+    let here = c .before .before in
+    let p = start here .pre in
+    let few = logs-most (view (s here)) (e here .word) (eqb (e here .redo) (e here .undo)) in
+    let len = waiting-length (s here .undos) in
     let count = p .1 .1 in
     omega arith
 
-filed-requires : tie.Need-filed-requires
-filed-requires c κs =
-    let s = c .before .before .before .before .before .args .state in
-    let limits =
-    logged-limits (c .made-room .result) s (firstLines (s .words / 8) (c .before .before .claimed .result))
-    (c .before .before .before .before .before .args .count) (c .made-room .ensures) in
-    let p = c .before .before .before .before .before .pre in
+-- room is made for the entry of a Clean word
+ready : (j : tie.Joined2) → Ready (undosLogged (start (j .before .before) .args .count) (view (claimed (j .before .before)))) (j .if2 .state)
+ready j =
+    let here = j .before .before in
+    ⊎-elim
+    (λ w.
+    let lines = result-lines (w .1 .result) (w .1 .ok) in
+    let undos = result-buffer (w .1 .result) (w .1 .ok) in
+    rw (w .2) (record { seen = w .1 .ensures; lines = lines; undos = undos }))
+    (λ w.
+    rw (w .1)
+    (record {
+      seen = none-logged (view (claimed here)) (start here .args .count) (w .0 .left);
+      lines = whole-claimed here;
+      undos = whole-undos here;
+    }))
+    (j .if2 .came)
+
+limits : (j : tie.Joined2) → (j .if2 .state .undos .len < 32) × ((j .if2 .state .redos .len ≤ 32) × (j .if2 .state .words ≤ 512))
+limits j =
+    let here = j .before .before in
+    let l = logged-limits (j .if2 .state) (s here) (firstLines (s here .words / 8) (lines here)) (start here .args .count) (ready j .seen) in
+    let p = start here .pre in
     omega arith
+
+put-thread-requires : tie.Need-put-thread-requires
+put-thread-requires c κs =
+    limits (c .before) .0
+
+put-word-requires : tie.Need-put-word-requires
+put-word-requires c κs =
+    limits (c .before .before .before) .0
+
+put-value-requires : tie.Need-put-value-requires
+put-value-requires c κs =
+    limits (c .before .before .before .before .before) .0
+
+put-value-requires-2 : tie.Need-put-value-requires-2
+put-value-requires-2 c κs =
+    limits (c .before .before .before .before .before .before .before) .0
+
+add-state : tie.Need-add-state
+add-state c =
+    let l = limits (c .before .before .before .before .before .before .before .before) .0 in
+    search needs
+
+mark-requires : tie.Need-mark-requires
+mark-requires c κs = search needs
+
+find-requires : tie.Need-find-requires
+find-requires c κs =
+    limits (c .before .before .before .before .before .before .before .before .before .before .before .before .before) .1 .0
+
+discard-requires : tie.Need-discard-requires
+discard-requires c κs = search needs
+
+find-requires-2 : tie.Need-find-requires-2
+find-requires-2 c κs = search needs
+
+put-value-requires-3 : tie.Need-put-value-requires-3
+put-value-requires-3 c κs =
+    let here = c .before .before .before .before .before in
+    let at = c .before .find2 .ensures (s here .undos) refl refl in
+    let within = place-within (e here .word) (s here .undos) in
+    let p = start here .pre in
+    omega arith
+
+mark-requires-2 : tie.Need-mark-requires-2
+mark-requires-2 c κs = search needs
 
 returns-2 : tie.Need-returns-2
 returns-2 c mem was =
-    let s = c .before .before .before .before .before .before .args .state in
-    let e = c .before .before .before .before .before .before .args .entry in
-    let p = c .before .before .before .before .before .before .pre in
-    next-other (view s) mem (e .thread) (e .word) (e .redo) (eqb (e .redo) (e .undo))
-    (firstLines (s .words / 8) (c .before .before .before .claimed .result))
-    (c .before .before .before .claimed .ensures (s .words / 8) (omega arith))
-    (e .undo) (c .before .before .before .before .state-of .result) (c .before .before .before .before .before .before .args .count)
-    (view (c .before .made-room .result)) (view (c .filed .result))
-    (c .before .before .if1 .left) was (p .1 .1)
-    (c .before .before .before .before .state-of .ensures (s .words / 8) (omega arith) (omega arith))
-    (c .before .made-room .ensures) (c .filed .ensures)
+    let j = c .before .before .before .before .before .before .before .before .before .before .before .before .before .before .before .before .before in
+    let here = j .before .before in
+    let r = j .if2 .state in
+    let l = limits j in
+    next-other (view (s here)) mem (e here .thread) (e here .word) (e here .redo) (eqb (e here .redo) (e here .undo))
+    (firstLines (s here .words / 8) (lines here)) (e here .undo) (here .before .before .before .before .before .before .state-of .result) (start here .args .count)
+    (view r) _ (differs here) (claim here) was (start here .pre .1 .1) (kind here) (ready j .seen)
+    (filed-first r (e here) (here .before .before .before .before .before .before .state-of .result) (c .before .before .before .before .before .before .before .before .before .before .before .before .before .before .before .put-thread .last .0) (c .before .before .before .before .before .before .before .before .before .before .before .before .before .put-word .last .0)
+    (c .before .before .before .before .before .before .before .before .before .before .before .put-value .last .0) (c .before .before .before .before .before .before .before .before .before .put-value2 .last .0) (c .before .before .before .before .before .before .mark .last .0) (waiting (c .discard .result))
+    (ready j .lines) (ready j .undos) (l .0) (l .1 .1) (j .before .match .keys1)
+    (c .before .before .before .before .before .before .before .before .before .before .before .before .before .before .before .put-thread .ensures) (c .before .before .before .before .before .before .before .before .before .before .before .before .before .put-word .ensures) (c .before .before .before .before .before .before .before .before .before .before .before .put-value .ensures) (c .before .before .before .before .before .before .before .before .before .put-value2 .ensures)
+    (c .before .before .before .before .before .before .mark .ensures (ready j .lines .states))
+    (c .discard .ensures ∙ sym (changed-within (r .redos) (discarded (e here .word) (waiting (r .redos))) (l .1 .0))))
+
+returns-3 : tie.Need-returns-3
+returns-3 c mem was =
+    let j = c .before .before .before .before .before .before .before .before .before .before .before .before .before .before .before in
+    let here = j .before .before in
+    let r = j .if2 .state in
+    let l = limits j in
+    next-other (view (s here)) mem (e here .thread) (e here .word) (e here .redo) (eqb (e here .redo) (e here .undo))
+    (firstLines (s here .words / 8) (lines here)) (e here .undo) (here .before .before .before .before .before .before .state-of .result) (start here .args .count)
+    (view r) _ (differs here) (claim here) was (start here .pre .1 .1) (kind here) (ready j .seen)
+    (filed-first r (e here) (here .before .before .before .before .before .before .state-of .result) (c .before .before .before .before .before .before .before .before .before .before .before .before .before .put-thread .last .0) (c .before .before .before .before .before .before .before .before .before .before .before .put-word .last .0)
+    (c .before .before .before .before .before .before .before .before .before .put-value .last .0) (c .before .before .before .before .before .before .before .put-value2 .last .0) (c .before .before .before .before .mark .last .0) (waiting (r .redos))
+    (ready j .lines) (ready j .undos) (l .0) (l .1 .1) (j .before .match .keys1)
+    (c .before .before .before .before .before .before .before .before .before .before .before .before .before .put-thread .ensures) (c .before .before .before .before .before .before .before .before .before .before .before .put-word .ensures) (c .before .before .before .before .before .before .before .before .before .put-value .ensures) (c .before .before .before .before .before .before .before .put-value2 .ensures)
+    (c .before .before .before .before .mark .ensures (ready j .lines .states))
+    (discarded-none (e here .word) (r .redos) (c .before .find .result) (c .if3 .left) (c .before .find .ensures (r .redos) refl refl)))
+
+returns-4 : tie.Need-returns-4
+returns-4 c mem was =
+    let here = c .before .before .before .before .before .before in
+    let p = start here .pre in
+    let k = here .before .before .before .before .before .before .state-of .result in
+    next-other (view (s here)) mem (e here .thread) (e here .word) (e here .redo) (eqb (e here .redo) (e here .undo))
+    (firstLines (s here .words / 8) (lines here)) (e here .undo) k (start here .args .count)
+    (view (claimed here)) _ (differs here) (claim here) was (p .1 .1) (kind here) (none-first here (λ z. let m = c .before .before .before .before .before .match .keys2 in omega arith))
+    (filed-dirty (view (claimed here)) (e here) k _ (c .before .before .before .before .before .match .keys2)
+    (amended-put (e here .word) (e here .redo) (s here .undos) (c .before .before .find2 .result) (c .put-value3 .last .0) (whole-undos here) (omega arith)
+    (c .before .before .find2 .ensures (s here .undos) refl refl) (c .put-value3 .ensures)))
+
+returns-5 : tie.Need-returns-5
+returns-5 c mem was =
+    let here = c .before .before .before in
+    let p = start here .pre in
+    let k = here .before .before .before .before .before .before .state-of .result in
+    next-other (view (s here)) mem (e here .thread) (e here .word) (e here .redo) (eqb (e here .redo) (e here .undo))
+    (firstLines (s here .words / 8) (lines here)) (e here .undo) k (start here .args .count)
+    (view (claimed here)) _ (differs here) (claim here) was (p .1 .1) (kind here) (none-first here (λ z. let m = c .before .before .match .keys3 in omega arith))
+    (filed-logged (view (claimed here)) (e here) k _ (c .before .before .match .keys3)
+    (rw (c .mark2 .ensures (whole-claimed here .states)) (first-marked (s here .words / 8) (lines here) (e here .word) 3 (whole-claimed here) (omega arith))))
+
+returns-6 : tie.Need-returns-6
+returns-6 c mem was =
+    let here = c .before in
+    let p = start here .pre in
+    let k = here .before .before .before .before .before .before .state-of .result in
+    next-other (view (s here)) mem (e here .thread) (e here .word) (e here .redo) (eqb (e here .redo) (e here .undo))
+    (firstLines (s here .words / 8) (lines here)) (e here .undo) k (start here .args .count)
+    (view (claimed here)) _ (differs here) (claim here) was (p .1 .1) (kind here) (none-first here (c .match .rest .0 .0 .1))
+    (filed-last (view (claimed here)) (e here) k (c .match .rest .0 .0 .1) (c .match .rest .0 .1) (c .match .rest .1))
 
 pub next-state-spec : {M : Type 1} → statement M
 next-state-spec =
     tie.close
     (tie.spec
+    cast-line
     state-of-requires
-    claimed-requires
+    put-holder-requires
     returns
-    made-room-requires
-    filed-requires
-    returns-2)
+    put-flag-requires
+    undos-logged-requires
+    put-thread-requires
+    put-word-requires
+    put-value-requires
+    put-value-requires-2
+    add-state
+    mark-requires
+    find-requires
+    discard-requires
+    find-requires-2
+    put-value-requires-3
+    mark-requires-2
+    returns-2
+    returns-3
+    returns-4
+    returns-5
+    returns-6)

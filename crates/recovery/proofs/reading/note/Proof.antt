@@ -2,16 +2,12 @@
 use mathlib.Core.Path.{refl, sym, ap, _∙_}
 use Rattle.log.specs.declared.Reading.the-variants.{Good}
 use Rattle.recovery.proofs.ReadOn.{valid-read, valid-record}
-use Rattle.recovery.proofs.Scanning.{noted-data, noted-bad, noted-commit}
 use borrow.Author.Needs.{needs}
 use Rattle.recovery.proofs.reading.note.Statement.{statement}
 use Rattle.recovery.proofs.reading.note.Tie as tie
 
 read-requires : tie.Need-read-requires
 read-requires c κs = search needs
-
-add-next : tie.Need-add-next
-add-next c = search needs
 
 enum-known-reading : tie.Need-enum-known-reading
 enum-known-reading c = search needs
@@ -28,14 +24,14 @@ enum-known-entry c = search needs
 cast-t : tie.Need-cast-t
 cast-t c = search needs
 
-mul-next : tie.Need-mul-next
-mul-next c = search needs
+mul-last : tie.Need-mul-last
+mul-last c = search needs
 
-element-write-next : tie.Need-element-write-next
-element-write-next c =
+element-write-last : tie.Need-element-write-last
+element-write-last c =
     let a = c .before .before .before .before .before .before .before .before .args in
     let read = c .before .before .before .before .before .before .read .ensures in
-    let v = valid-record (a .words) _ _ _ (rw read (valid-read (a .words) (a .log .now) (a .found .tail)))
+    let v = valid-record (a .words) _ _ _ (rw read (valid-read (a .words) (a .log .now) (a .number)))
     (c .before .before .before .before .reading .given .1)
     (c .before .entry .given .1) in
     v .thread
@@ -45,47 +41,35 @@ enum-told-3 c = search needs
 
 returns : tie.Need-returns
 returns c =
-    let a = c .before .before .before .before .before .before .before .args in
-    noted-data (a .words) (a .log .now) (a .found) _
-    (sym (c .before .before .before .before .before .read .ensures) ∙ c .before .before .before .reading .given .1 ∙ ap Good (c .enum-told .given .1))
-    refl
-    (λ t. refl)
+    rw (sym (c .before .before .before .before .before .read .ensures) ∙ c .before .before .before .reading .given .1 ∙ ap Good (c .enum-told .given .1))
+    (refl, refl)
 
 returns-2 : tie.Need-returns-2
 returns-2 c =
-    let a = c .before .before .before .before .before .before .before .args in
-    noted-data (a .words) (a .log .now) (a .found) _
-    (sym (c .before .before .before .before .before .read .ensures) ∙ c .before .before .before .reading .given .1 ∙ ap Good (c .enum-told2 .given .1))
-    refl
-    (λ t. refl)
+    rw (sym (c .before .before .before .before .before .read .ensures) ∙ c .before .before .before .reading .given .1 ∙ ap Good (c .enum-told2 .given .1))
+    (refl, refl)
 
 returns-3 : tie.Need-returns-3
 returns-3 c =
-    let a = c .before .before .before .before .before .before .before .before .args in
-    noted-commit (a .words) (a .log .now) (a .found) _
-    (sym (c .before .before .before .before .before .before .read .ensures) ∙ c .before .before .before .before .reading .given .1)
-    _
-    (ap Good (c .before .entry .given .1))
-    (search needs)
+    rw (sym (c .before .before .before .before .before .before .read .ensures) ∙ c .before .before .before .before .reading .given .1
+    ∙ ap Good (c .before .entry .given .1))
+    (refl, refl)
 
 returns-4 : tie.Need-returns-4
-returns-4 c =
-    let a = c .before .before .before .before .args in
-    noted-bad (a .words) (a .log .now) (a .found) _ (sym (c .before .before .read .ensures)) (c .enum-told3 .given .1)
+returns-4 c = rw (sym (c .before .before .read .ensures) ∙ c .enum-told3 .given .1) (refl, refl)
 
 pub note-spec : {M : Type 1} → statement M
 note-spec =
     tie.close
     (tie.spec
     read-requires
-    add-next
     enum-known-reading
     enum-told
     enum-told-2
     enum-known-entry
     cast-t
-    mul-next
-    element-write-next
+    mul-last
+    element-write-last
     enum-told-3
     returns
     returns-2

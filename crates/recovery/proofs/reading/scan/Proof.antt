@@ -1,17 +1,23 @@
 -- `reading::scan` meets its contract: at each turn what is found is right for the records read so far.
-use mathlib.Core.Path.{sym, _∙_}
+use Prim.Native.Nat.{_<_}
+use mathlib.Core.Bool.{true}
+use mathlib.Core.Path.{_≡_, sym, _∙_}
 use native.Mathlib.Omega.{arith}
 use borrow.Author.Needs.{needs}
-use borrow.Author.Tests.{not-true, not-false}
-use Rattle.recovery.proofs.Scanning.{Sofar, sofar-start, sofar-more, sofar-end, number-below}
+use borrow.Author.Tests.{lt-ltb, ltb-true}
+use lib.Dec.{ltb}
+use Rattle.log.specs.Region.{isWritten}
+use Rattle.log.proofs.Searching.{number-below}
+use Rattle.model.proofs.Lists.{both-left, both-right}
+use Rattle.recovery.proofs.Scanning.{Sofar, sofar-start, sofar-more, sofar-end}
 use Rattle.recovery.proofs.reading.scan.Statement.{statement}
 use Rattle.recovery.proofs.reading.scan.Tie as tie
 
 abbrev Inv-loop : tie.InvT-loop
-Inv-loop log words found₀ left₀ found left = Sofar words log left found
+Inv-loop log words tail₀ bad₀ last₀ left₀ tail bad last left = Sofar words log left tail bad last
 
 abbrev μ-loop : tie.MeasureT-loop
-μ-loop log words found₀ left₀ found left = left
+μ-loop log words tail₀ bad₀ last₀ left₀ tail bad last left = left
 
 head-requires : tie.Need-head-requires Inv-loop μ-loop
 head-requires c κs = search needs
@@ -27,33 +33,34 @@ loop-holds c =
 is-written-requires : tie.Need-is-written-requires Inv-loop μ-loop
 is-written-requires c κs = search needs
 
-returns : tie.Need-returns Inv-loop μ-loop
-returns c =
-    let a = c .before .before .before .before .before .before .before .args in
-    sofar-end (a .words) (a .log .now) _ _ (c .before .before .before .loop .inv)
-    (λ _. sym (c .before .is-written .ensures) ∙ not-true _ (c .if1 .taken))
-
 note-requires : tie.Need-note-requires Inv-loop μ-loop
-note-requires c κs =
-    number-below _ _ (sym (c .before .is-written .ensures) ∙ not-false _ (c .if1 .left))
+note-requires c κs = search needs
+
+-- a turn is made where more may be read, and the next record is there
+more : (c : tie.Then1 Inv-loop μ-loop) → 0 < c .before .before .loop .left
+more c = ltb-true 0 (c .before .before .loop .left) (both-left _ _ (c .if1 .taken))
+
+there : (c : tie.Then1 Inv-loop μ-loop) → isWritten (c .before .before .before .before .before .before .args .log .now) (c .before .before .loop .tail) ≡ true
+there c = sym (c .before .is-written .ensures) ∙ both-right (ltb 0 (c .before .before .loop .left)) _ (c .if1 .taken)
+
+add-tail : tie.Need-add-tail Inv-loop μ-loop
+add-tail c = omega (arith, number-below _ _ (there (c .before .before)))
 
 sub-left : tie.Need-sub-left Inv-loop μ-loop
-sub-left c = omega arith
+sub-left c = omega (arith, more (c .before .before))
 
 loop-less : tie.Need-loop-less Inv-loop μ-loop
-loop-less c = omega arith
+loop-less c = omega (arith, more (c .before .before))
 
 loop-again : tie.Need-loop-again Inv-loop μ-loop
 loop-again c =
-    let a = c .before .before .before .before .before .before .before .before .args in
-    let turn = c .before .before .before .before in
-    sofar-more (a .words) (a .log .now) _ _ _ (turn .loop .inv) (c .note .ensures) (c .before .before .before .loop-test .taken)
-    (sym (c .before .before .is-written .ensures) ∙ not-false _ (c .before .if1 .left))
+    let turn = c .before .before in
+    rw (c .note .ensures .0, c .note .ensures .1) (sofar-more _ _ _ _ _ _ (turn .before .before .loop .inv) (more turn) (there turn))
 
-returns-2 : tie.Need-returns-2 Inv-loop μ-loop
-returns-2 c =
-    let a = c .before .before .before .before .before .args in
-    sofar-end (a .words) (a .log .now) _ _ (c .before .loop .inv) (λ some. absurd (let h = c .loop-test .left in omega arith))
+returns : tie.Need-returns Inv-loop μ-loop
+returns c =
+    let found = c .before .before .loop in
+    sofar-end _ _ _ _ _ _ (found .inv) (λ some. sym (c .before .is-written .ensures) ∙ rw (lt-ltb 0 (found .left) some) at (c .if1 .left))
 
 pub scan-spec : {M : Type 1} → statement M
 scan-spec =
@@ -65,9 +72,9 @@ scan-spec =
     slots-requires
     loop-holds
     is-written-requires
-    returns
     note-requires
+    add-tail
     sub-left
     loop-less
     loop-again
-    returns-2)
+    returns)

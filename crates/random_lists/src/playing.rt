@@ -1,0 +1,162 @@
+// "One step", and the steps of a list
+use crate::changing::changed;
+use crate::choosing::Run;
+use crate::choosing::no_run;
+use crate::digest::fold;
+use crate::digest::fold_words;
+use crate::disturbing::Trouble;
+use crate::disturbing::no_trouble;
+use crate::generator::seeded;
+use crate::making::lent_in;
+use crate::making::made;
+use crate::numbers::either;
+use crate::numbers::sum;
+use crate::setup::Plan;
+use crate::setup::fill;
+use crate::setup::fill_log;
+use crate::setup::planned;
+use crate::tables::RECOVER;
+use machine::Answer;
+use machine::CUT;
+use machine::State;
+
+// The digest of the lists so far, their steps, and how often each answer was given, 255 at 16
+pub struct Score {
+    pub digest: u64,
+    pub steps: u64,
+    pub counts: [u64; 17],
+}
+
+impl Score {
+    fn counted(mut self, answer: u64) -> Score {
+        let at = (either(answer == CUT, 16, answer) % 17) as usize;
+        self.counts[at] = sum(self.counts[at], 1);
+        self
+    }
+}
+
+// A list under way: what was drawn for it, the state, the variables, the digest, and the last answer
+struct Game {
+    plan: Plan,
+    state: State,
+    trouble: Trouble,
+    run: Run,
+    digest: u64,
+    answer: u64,
+}
+
+fn fresh(plan: Plan, x: u64) -> Game {
+    Game {
+        plan,
+        state: State::lost(),
+        trouble: no_trouble(x),
+        run: no_run(),
+        digest: 0,
+        answer: 0,
+    }
+}
+
+impl Game {
+    // Parts A to D, without the changes
+    fn chosen(mut self) -> Game {
+        let plan = self.plan;
+        let old = self.trouble;
+        let before = self.run;
+        let trouble = old.next(plan, before.kind);
+        let turned = before.turned(trouble.x, plan, trouble.forced, trouble.case);
+        let run = turned.given(plan);
+        self.trouble = trouble;
+        self.run = run;
+        self
+    }
+
+    // The changes. Where there are any, the whole log is lent.
+    fn disturbed(mut self, log: &mut [u64]) -> Game {
+        let plan = self.plan;
+        let state = self.state;
+        let old = self.trouble;
+        let trouble = old.patched(log, plan.l, state.head, state.tail);
+        let next = changed(state, trouble, plan);
+        self.trouble = trouble;
+        self.state = next;
+        self
+    }
+
+    // Part F, and of part G the answer and the count left
+    fn after(mut self, r: Answer) -> Game {
+        let run = self.run;
+        let old = self.trouble;
+        let next = r.state;
+        let trouble = old.after(run.x, run.k, r.answer);
+        self.state = next;
+        self.trouble = trouble;
+        self.answer = r.answer;
+        self.digest = fold(fold(self.digest, r.answer), r.left);
+        self
+    }
+
+    // The changes, part E and part F
+    fn stepped(self, home: &mut [u64], working: &mut [u64], log: &mut [u64]) -> Game {
+        let game = self.disturbed(log);
+        let r = made(game.state, game.run, home, working, log);
+        game.after(r)
+    }
+
+    // The rest of part G
+    fn folded(
+        mut self,
+        last: bool,
+        home: &[u64; 512],
+        working: &[u64; 512],
+        log: &[u64; 3073],
+    ) -> Game {
+        let plan = self.plan;
+        let small = (plan.w < 512) & (plan.l < 1024);
+        if (small | (self.answer == CUT)) | ((self.run.k == RECOVER) | last) {
+            let with_home = fold_words(self.digest, plan.w, home);
+            let with_working = fold_words(with_home, plan.w, working);
+            self.digest = fold_words(with_working, 1 + 3 * (plan.l % 2048), log);
+        }
+        self
+    }
+}
+
+// "This is done `steps` times."
+fn play(
+    start: Game,
+    before: Score,
+    mut home: [u64; 512],
+    mut working: [u64; 512],
+    mut log: [u64; 3073],
+) -> Score {
+    let mut game = start;
+    let mut score = before;
+    let mut left = start.plan.steps;
+    while left > 0 {
+        left -= 1;
+        game = game.chosen();
+        let lent = lent_in(game.trouble.case, game.plan.w, game.plan.l);
+        let h = lent.home;
+        let w = lent.working;
+        let l = lent.log;
+        game = game.stepped(&mut home[..h], &mut working[..w], &mut log[..l]);
+        game = game.folded(left == 0, &home, &working, &log);
+        score = score.counted(game.answer);
+    }
+    score.digest = fold(score.digest, game.digest);
+    score
+}
+
+// List n
+pub fn with_list(n: u64, before: Score) -> Score {
+    let mut home = [0u64; 512];
+    let mut working = [0u64; 512];
+    let mut log = [0u64; 3073];
+    let plan = planned(n, seeded(n));
+    let x = fill(plan.x, plan.w, &mut home, true);
+    let y = fill(x, plan.w, &mut working, false);
+    fill_log(plan.head, plan.l, &mut log);
+    let mut score = play(fresh(plan, y), before, home, working, log);
+    score.steps = sum(score.steps, plan.steps);
+    score
+}

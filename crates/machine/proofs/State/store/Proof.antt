@@ -138,17 +138,22 @@ same-length-6 c = search needs
 
 -- the late rows decide then
 late-here : (c : tie.After-late-refusal) → c .late-refusal .result
-    ≡ numberOf (storeRows (view (start (c .before .before .before .before .before .before .before .before .before .before) .args .t1)) (lent (start (c .before .before .before .before .before .before .before .before .before .before))) (start (c .before .before .before .before .before .before .before .before .before .before) .args .thread)
-    (start (c .before .before .before .before .before .before .before .before .before .before) .args .word) (start (c .before .before .before .before .before .before .before .before .before .before) .args .value))
+    ≡ numberOf (storeRows (view (start (c .before .before .before .before .before .before .before .before .before .before) .args .t1))
+    (lent (start (c .before .before .before .before .before .before .before .before .before .before)))
+    (start (c .before .before .before .before .before .before .before .before .before .before) .args .thread)
+    (start (c .before .before .before .before .before .before .before .before .before .before) .args .word)
+    (start (c .before .before .before .before .before .before .before .before .before .before) .args .value))
 late-here c =
     let here = c .before .before .before .before .before .before .before .before .before .before in
     let s = start here in
     let k = known-here here in
     let word = k .word in
     let whole = k .width .whole in
-    late-number (s .args .t1) (s .args .thread) (s .args .word) (same (c .before .before)) (c .before .before .before .before .before .before .held-by-another .result)
+    late-number (s .args .t1) (s .args .thread) (s .args .word) (same (c .before .before))
+    (c .before .before .before .before .before .before .held-by-another .result)
     (c .before .before .logs-first .result) (c .late-refusal .result) (count-here (c .before .before))
-    (c .before .before .before .before .before .before .held-by-another .ensures (s .args .t1 .lines) refl (s .args .t1 .words / 8) (omega arith)) (c .late-refusal .ensures)
+    (c .before .before .before .before .before .before .held-by-another .ensures (s .args .t1 .lines) refl (s .args .t1 .words / 8) (omega arith))
+    (c .late-refusal .ensures)
     ∙ late-decides (view (s .args .t1)) (lent s) (s .args .thread) (s .args .word) (s .args .value) (here .before .early-refusal .result)
     (early-here here) (here .if1 .left)
 

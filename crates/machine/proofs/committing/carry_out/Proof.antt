@@ -20,7 +20,8 @@ is-ready s home allowed =
     ready (a .t1) (a .thread) (a .supply) home (a .working .now) (a .log .now) 0 (sym (allowed .common)) refl 0 (sym (allowed .others)) refl
 
 cast-append-commit : tie.Need-cast-append-commit
-cast-append-commit c = omega (arith, c .before .before .before .before .before .before .before .before .before .before .before .before .before .before .before .pre)
+cast-append-commit c = omega
+    (arith, c .before .before .before .before .before .before .before .before .before .before .before .before .before .before .before .pre)
 
 append-commit-requires : tie.Need-append-commit-requires
 append-commit-requires c κs = search needs

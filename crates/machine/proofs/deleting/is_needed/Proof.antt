@@ -22,7 +22,8 @@ enum-known-entry c = search needs
 is-kept-requires : tie.Need-is-kept-requires
 is-kept-requires c κs =
     let start = c .before .before .before .before .before .before .before .before .before in
-    let v = valid-record _ _ _ _ (start .pre .1) (c .before .before .before .before .before .before .oldest .given .1) (c .before .before .before .entry .given .1) in
+    let v = valid-record _ _ _ _ (start .pre .1) (c .before .before .before .before .before .before .oldest .given .1)
+    (c .before .before .before .entry .given .1) in
     (v .word, start .pre .0 .1)
 
 enum-known-entry-2 : tie.Need-enum-known-entry-2
@@ -31,7 +32,8 @@ enum-known-entry-2 c = search needs
 is-kept-requires-2 : tie.Need-is-kept-requires-2
 is-kept-requires-2 c κs =
     let start = c .before .before .before .before .before .before .before .before .before in
-    let v = valid-record _ _ _ _ (start .pre .1) (c .before .before .before .before .before .before .oldest .given .1) (c .before .before .before .entry2 .given .1) in
+    let v = valid-record _ _ _ _ (start .pre .1) (c .before .before .before .before .before .before .oldest .given .1)
+    (c .before .before .before .entry2 .given .1) in
     (v .word, start .pre .0 .1)
 
 enum-told : tie.Need-enum-told

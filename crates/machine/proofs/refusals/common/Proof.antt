@@ -32,7 +32,8 @@ returns c =
       c .refuse3 .ensures,
       c .before .refuse2 .ensures,
       c .before .before .refuse .ensures,
-      c .before .before .before .wrong-size .ensures (view (c .before .before .before .before .before .before .before .before .before .before .args .state)) refl refl refl,
+      c .before .before .before .wrong-size .ensures
+          (view (c .before .before .before .before .before .before .before .before .before .before .args .state)) refl refl refl,
       c .before .before .before .before .before .head .ensures,
       c .before .before .before .before .before .before .is-consistent .ensures,
     )

@@ -55,7 +55,8 @@ returns c mem was =
     next-same (view s) mem (e .thread) (e .word) (e .redo) (eqb (e .redo) (e .undo))
     (firstLines (s .words / 8) (record { holders = c .before .before .put-holder .last .0; dirty = s .lines .dirty; states = s .lines .states }))
     (eq-eqb (e .redo) (e .undo) (c .if1 .taken))
-    (held-lines (s .words / 8) (s .lines) (e .word / 8) (e .thread) (c .before .before .put-holder .last .0) whole (omega arith) (c .before .before .put-holder .ensures))
+    (held-lines (s .words / 8) (s .lines) (e .word / 8) (e .thread) (c .before .before .put-holder .last .0) whole (omega arith)
+    (c .before .before .put-holder .ensures))
 
 put-flag-requires : tie.Need-put-flag-requires
 put-flag-requires c κs = search needs
@@ -96,7 +97,8 @@ module _ (c : tie.After-put-flag) where
 
   whole-claimed : WholeLines lines
   whole-claimed =
-      whole-dirty 64 (s .lines) (e .word / 8) (e .thread) (c .before .before .before .before .put-holder .last .0) whole (omega arith) (c .before .before .before .before .put-holder .ensures)
+      whole-dirty 64 (s .lines) (e .word / 8) (e .thread) (c .before .before .before .before .put-holder .last .0) whole (omega arith)
+      (c .before .before .before .before .put-holder .ensures)
       (c .put-flag .last .0) (c .put-flag .ensures)
 
   differs : eqb (e .redo) (e .undo) ≡ false
@@ -117,7 +119,8 @@ module _ (c : tie.After-put-flag) where
   none-first : (c .before .before .before .before .before .before .state-of .result ≡ 0 → ⊥) → view claimed ≡ undosLogged (start .args .count) (view claimed)
   none-first ne =
       none-logged (view claimed) (start .args .count)
-      (logs-none (view s) (e .word) (eqb (e .redo) (e .undo)) (c .before .before .before .before .before .before .state-of .result) (start .args .count) differs kind ne (start .pre .1 .1))
+      (logs-none (view s) (e .word) (eqb (e .redo) (e .undo)) (c .before .before .before .before .before .before .state-of .result) (start .args .count)
+      differs kind ne (start .pre .1 .1))
 
 undos-logged-requires : tie.Need-undos-logged-requires
 undos-logged-requires c κs =
@@ -205,12 +208,20 @@ returns-2 c mem was =
     let r = j .if2 .state in
     let l = limits j in
     next-other (view (s here)) mem (e here .thread) (e here .word) (e here .redo) (eqb (e here .redo) (e here .undo))
-    (firstLines (s here .words / 8) (lines here)) (e here .undo) (here .before .before .before .before .before .before .state-of .result) (start here .args .count)
+    (firstLines (s here .words / 8) (lines here)) (e here .undo) (here .before .before .before .before .before .before .state-of .result)
+    (start here .args .count)
     (view r) _ (differs here) (claim here) was (start here .pre .1 .1) (kind here) (ready j .seen)
-    (filed-first r (e here) (here .before .before .before .before .before .before .state-of .result) (c .before .before .before .before .before .before .before .before .before .before .before .before .before .before .before .put-thread .last .0) (c .before .before .before .before .before .before .before .before .before .before .before .before .before .put-word .last .0)
-    (c .before .before .before .before .before .before .before .before .before .before .before .put-value .last .0) (c .before .before .before .before .before .before .before .before .before .put-value2 .last .0) (c .before .before .before .before .before .before .mark .last .0) (waiting (c .discard .result))
+    (filed-first r (e here) (here .before .before .before .before .before .before .state-of .result)
+    (c .before .before .before .before .before .before .before .before .before .before .before .before .before .before .before .put-thread .last .0)
+    (c .before .before .before .before .before .before .before .before .before .before .before .before .before .put-word .last .0)
+    (c .before .before .before .before .before .before .before .before .before .before .before .put-value .last .0)
+    (c .before .before .before .before .before .before .before .before .before .put-value2 .last .0)
+    (c .before .before .before .before .before .before .mark .last .0) (waiting (c .discard .result))
     (ready j .lines) (ready j .undos) (l .0) (l .1 .1) (j .before .match .keys1)
-    (c .before .before .before .before .before .before .before .before .before .before .before .before .before .before .before .put-thread .ensures) (c .before .before .before .before .before .before .before .before .before .before .before .before .before .put-word .ensures) (c .before .before .before .before .before .before .before .before .before .before .before .put-value .ensures) (c .before .before .before .before .before .before .before .before .before .put-value2 .ensures)
+    (c .before .before .before .before .before .before .before .before .before .before .before .before .before .before .before .put-thread .ensures)
+    (c .before .before .before .before .before .before .before .before .before .before .before .before .before .put-word .ensures)
+    (c .before .before .before .before .before .before .before .before .before .before .before .put-value .ensures)
+    (c .before .before .before .before .before .before .before .before .before .put-value2 .ensures)
     (c .before .before .before .before .before .before .mark .ensures (ready j .lines .states))
     (c .discard .ensures ∙ sym (changed-within (r .redos) (discarded (e here .word) (waiting (r .redos))) (l .1 .0))))
 
@@ -221,12 +232,19 @@ returns-3 c mem was =
     let r = j .if2 .state in
     let l = limits j in
     next-other (view (s here)) mem (e here .thread) (e here .word) (e here .redo) (eqb (e here .redo) (e here .undo))
-    (firstLines (s here .words / 8) (lines here)) (e here .undo) (here .before .before .before .before .before .before .state-of .result) (start here .args .count)
+    (firstLines (s here .words / 8) (lines here)) (e here .undo) (here .before .before .before .before .before .before .state-of .result)
+    (start here .args .count)
     (view r) _ (differs here) (claim here) was (start here .pre .1 .1) (kind here) (ready j .seen)
-    (filed-first r (e here) (here .before .before .before .before .before .before .state-of .result) (c .before .before .before .before .before .before .before .before .before .before .before .before .before .put-thread .last .0) (c .before .before .before .before .before .before .before .before .before .before .before .put-word .last .0)
-    (c .before .before .before .before .before .before .before .before .before .put-value .last .0) (c .before .before .before .before .before .before .before .put-value2 .last .0) (c .before .before .before .before .mark .last .0) (waiting (r .redos))
+    (filed-first r (e here) (here .before .before .before .before .before .before .state-of .result)
+    (c .before .before .before .before .before .before .before .before .before .before .before .before .before .put-thread .last .0)
+    (c .before .before .before .before .before .before .before .before .before .before .before .put-word .last .0)
+    (c .before .before .before .before .before .before .before .before .before .put-value .last .0)
+    (c .before .before .before .before .before .before .before .put-value2 .last .0) (c .before .before .before .before .mark .last .0) (waiting (r .redos))
     (ready j .lines) (ready j .undos) (l .0) (l .1 .1) (j .before .match .keys1)
-    (c .before .before .before .before .before .before .before .before .before .before .before .before .before .put-thread .ensures) (c .before .before .before .before .before .before .before .before .before .before .before .put-word .ensures) (c .before .before .before .before .before .before .before .before .before .put-value .ensures) (c .before .before .before .before .before .before .before .put-value2 .ensures)
+    (c .before .before .before .before .before .before .before .before .before .before .before .before .before .put-thread .ensures)
+    (c .before .before .before .before .before .before .before .before .before .before .before .put-word .ensures)
+    (c .before .before .before .before .before .before .before .before .before .put-value .ensures)
+    (c .before .before .before .before .before .before .before .put-value2 .ensures)
     (c .before .before .before .before .mark .ensures (ready j .lines .states))
     (discarded-none (e here .word) (r .redos) (c .before .find .result) (c .if3 .left) (c .before .find .ensures (r .redos) refl refl)))
 
@@ -237,7 +255,8 @@ returns-4 c mem was =
     let k = here .before .before .before .before .before .before .state-of .result in
     next-other (view (s here)) mem (e here .thread) (e here .word) (e here .redo) (eqb (e here .redo) (e here .undo))
     (firstLines (s here .words / 8) (lines here)) (e here .undo) k (start here .args .count)
-    (view (claimed here)) _ (differs here) (claim here) was (p .1 .1) (kind here) (none-first here (λ z. let m = c .before .before .before .before .before .match .keys2 in omega arith))
+    (view (claimed here)) _ (differs here) (claim here) was (p .1 .1) (kind here)
+    (none-first here (λ z. let m = c .before .before .before .before .before .match .keys2 in omega arith))
     (filed-dirty (view (claimed here)) (e here) k _ (c .before .before .before .before .before .match .keys2)
     (amended-put (e here .word) (e here .redo) (s here .undos) (c .before .before .find2 .result) (c .put-value3 .last .0) (whole-undos here) (omega arith)
     (c .before .before .find2 .ensures (s here .undos) refl refl) (c .put-value3 .ensures)))
@@ -249,7 +268,8 @@ returns-5 c mem was =
     let k = here .before .before .before .before .before .before .state-of .result in
     next-other (view (s here)) mem (e here .thread) (e here .word) (e here .redo) (eqb (e here .redo) (e here .undo))
     (firstLines (s here .words / 8) (lines here)) (e here .undo) k (start here .args .count)
-    (view (claimed here)) _ (differs here) (claim here) was (p .1 .1) (kind here) (none-first here (λ z. let m = c .before .before .match .keys3 in omega arith))
+    (view (claimed here)) _ (differs here) (claim here) was (p .1 .1) (kind here)
+    (none-first here (λ z. let m = c .before .before .match .keys3 in omega arith))
     (filed-logged (view (claimed here)) (e here) k _ (c .before .before .match .keys3)
     (rw (c .mark2 .ensures (whole-claimed here .states)) (first-marked (s here .words / 8) (lines here) (e here .word) 3 (whole-claimed here) (omega arith))))
 

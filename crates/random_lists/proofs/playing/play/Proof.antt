@@ -29,19 +29,23 @@ array-borrow-prefix-home : tie.Need-array-borrow-prefix-home Inv-loop μ-loop
 array-borrow-prefix-home c = search needs
 
 slice-aggregate-stepped : tie.Need-slice-aggregate-stepped Inv-loop μ-loop
-slice-aggregate-stepped c = counted (c .before .lent-in .result .home) 512 (c .before .before .before .before .loop .home) (c .before .lent-in .ensures .0) (c .before .before .before .before .loop .inv .0)
+slice-aggregate-stepped c = counted (c .before .lent-in .result .home) 512 (c .before .before .before .before .loop .home)
+    (c .before .lent-in .ensures .0) (c .before .before .before .before .loop .inv .0)
 
 array-borrow-prefix-working : tie.Need-array-borrow-prefix-working Inv-loop μ-loop
 array-borrow-prefix-working c = search needs
 
 slice-aggregate-stepped-2 : tie.Need-slice-aggregate-stepped-2 Inv-loop μ-loop
-slice-aggregate-stepped-2 c = counted (c .before .before .lent-in .result .working) 512 (c .before .before .before .before .before .loop .working) (c .before .before .lent-in .ensures .1 .0) (c .before .before .before .before .before .loop .inv .1 .0)
+slice-aggregate-stepped-2 c = counted (c .before .before .lent-in .result .working) 512 (c .before .before .before .before .before .loop .working)
+    (c .before .before .lent-in .ensures .1 .0) (c .before .before .before .before .before .loop .inv .1 .0)
 
 array-borrow-prefix-log : tie.Need-array-borrow-prefix-log Inv-loop μ-loop
 array-borrow-prefix-log c = search needs
 
 slice-aggregate-stepped-3 : tie.Need-slice-aggregate-stepped-3 Inv-loop μ-loop
-slice-aggregate-stepped-3 c = counted (c .before .before .before .lent-in .result .log) 3073 (c .before .before .before .before .before .before .loop .log) (c .before .before .before .lent-in .ensures .1 .1) (c .before .before .before .before .before .before .loop .inv .1 .1)
+slice-aggregate-stepped-3 c = counted (c .before .before .before .lent-in .result .log) 3073
+    (c .before .before .before .before .before .before .loop .log) (c .before .before .before .lent-in .ensures .1 .1)
+    (c .before .before .before .before .before .before .loop .inv .1 .1)
 
 stepped-requires : tie.Need-stepped-requires Inv-loop μ-loop
 stepped-requires c κs = search needs

@@ -176,7 +176,8 @@ returns-9 c =
     let d = c .before .before .before .before .before .before in
     let r = d .recover in
     rw (d .before .before .before .before .enum-told4 .given .1)
-    (recovered (shown (r .result) (r .last .0) (r .last .1 .0) (r .last .1 .1 .0)) _ (view (d .before .before .before .before .before .before .before .before .before .args .state)) _ (r .ensures))
+    (recovered (shown (r .result) (r .last .0) (r .last .1 .0) (r .last .1 .1 .0)) _
+    (view (d .before .before .before .before .before .before .before .before .before .args .state)) _ (r .ensures))
 
 pub apply-spec : {M : Type 1} → statement M
 apply-spec =

@@ -20,7 +20,8 @@ same-length-2 : tie.Need-same-length-2
 same-length-2 c = search needs
 
 same-length-3 : tie.Need-same-length-3
-same-length-3 c = c .before .before .before .before .before .before .before .made .kept .1 .1 .1 .1 .0 ∙ c .before .before .before .before .before .before .before .before .before .before .before .before .before .disturbed .kept .1 .0
+same-length-3 c = c .before .before .before .before .before .before .before .made .kept .1 .1 .1 .1 .0
+    ∙ c .before .before .before .before .before .before .before .before .before .before .before .before .before .disturbed .kept .1 .0
 
 returns : tie.Need-returns
 returns c = search needs

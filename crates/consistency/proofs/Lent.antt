@@ -8,11 +8,9 @@ use native.Mathlib.Omega.{arith}
 use lib.Dec.{eqb}
 use lib.ListN.{length, getD, length-append, List·getD-eq-default}
 use Rattle.parts.specs.declared.Entry.{Entry}
-use Rattle.parts.specs.declared.Buffer.{Buffer}
 use Rattle.parts.specs.declared.Line.{Line}
 use Rattle.parts.specs.declared.Lines.{Lines}
 use Rattle.parts.specs.Listed.{listed}
-use Rattle.parts.specs.Waiting.{entryAt, waiting}
 use Rattle.parts.specs.Lines.{freeLine, lineAt, firstLines}
 use Rattle.parts.specs.States.{stateAt, Clean, Dirty}
 use Rattle.parts.proofs.Listed.{length-listed, getD-listed}
@@ -56,8 +54,30 @@ field-alike f a b alike n i =
           ap f (List·getD-eq-default (listed n a) freeLine (omega arith)) ∙ ap f (sym (List·getD-eq-default (listed n b) freeLine (omega arith)))
     ]
 
+-- Two lists of entries of which no clause tells one from the other: equally many, as many of them for each word, and a test that looks at
+-- threads and words alone is passed by all in both, or in neither.
+pub record Alike (bare whole : List Entry) : Type 0 where
+  pub number : length bare ≡ length whole
+  pub each : (f g : Entry → Bool) → ((e : Entry) → f (bareEntry (e .thread) (e .word)) ≡ g e) → all f bare ≡ all g whole
+  pub ofWord : (w : ℕ) → length (entriesOf w bare) ≡ length (entriesOf w whole)
+
+-- Entries of which the threads and the words are lent: the i-th has the i-th thread and the i-th word, whatever its values.
+pub entries-lent : (n : ℕ) (threads words : List ℕ) (entry : ℕ → Entry)
+    → ((i : ℕ) → bareEntry (entry i .thread) (entry i .word) ≡ bareEntry (getD threads i 0) (getD words i 0))
+    → Alike (entriesLent n threads words) (listed n entry)
+entries-lent n threads words entry same =
+    record {
+      number = length-listed n bare ∙ sym (length-listed n entry);
+      each = λ f g alike. all-alike f g bare entry (λ i. ap f (sym (same i)) ∙ alike (entry i)) n;
+      ofWord = λ w. count-alike _ _ bare entry (λ i. ap (λ (e : Entry). eqb (e .word) w) (sym (same i))) n;
+    }
+  where
+    bare : ℕ → Entry
+    bare i = bareEntry (getD threads i 0) (getD words i 0)
+
 -- The lines and the entries of a state, and those of which the parts are lent.
-module _ (lost : Bool) (words slots head tail : ℕ) (opened : List Bool) (ls : Lines) (us rs : Buffer) where
+module _ (lost : Bool) (words slots head tail : ℕ) (opened : List Bool) (ls : Lines) {us undos rs redos : List Entry} (u : Alike us undos)
+    (r : Alike rs redos) where
   abbrev whole : Machine
   whole =
       record {
@@ -68,20 +88,15 @@ module _ (lost : Bool) (words slots head tail : ℕ) (opened : List Bool) (ls : 
         tail = tail;
         opened = opened;
         lines = firstLines (words / 8) ls;
-        undoRedo = waiting us;
-        redo = waiting rs;
+        undoRedo = undos;
+        redo = redos;
       }
 
   abbrev lent : Machine
-  lent =
-      stateOf words slots head tail opened (linesLent (words / 8) (ls .holders) (ls .states)) (entriesLent (us .len) (us .threads) (us .words))
-      (entriesLent (rs .len) (rs .threads) (rs .words))
+  lent = stateOf words slots head tail opened (linesLent (words / 8) (ls .holders) (ls .states)) us rs
 
   abbrev line : ℕ → Line
   line i = bareLine (getD (ls .holders) i 0) (getD (ls .states) i 0)
-
-  abbrev entry : Buffer → ℕ → Entry
-  entry b i = bareEntry (getD (b .threads) i 0) (getD (b .words) i 0)
 
   state-alike : (w : ℕ) → stateIn (lent .lines) w ≡ stateIn (whole .lines) w
   unfolding stateIn
@@ -91,52 +106,38 @@ module _ (lost : Bool) (words slots head tail : ℕ) (opened : List Bool) (ls : 
   unfolding holderIn
   holder-alike w = field-alike (λ l. l .holder) line (lineAt ls) (λ i. refl) (words / 8) (w / 8)
 
-  -- a test of the lines, one of the entries, and their number
+  -- a test of the lines
   lines-alike : (f : Line → Bool) → ((i : ℕ) → f (line i) ≡ f (lineAt ls i)) → all f (lent .lines) ≡ all f (whole .lines)
   lines-alike f alike = all-alike f f line (lineAt ls) alike (words / 8)
-
-  entries-alike : (f g : Entry → Bool) (b : Buffer) → ((i : ℕ) → f (entry b i) ≡ g (entryAt b i))
-      → all f (entriesLent (b .len) (b .threads) (b .words)) ≡ all g (waiting b)
-  entries-alike f g b alike = all-alike f g (entry b) (entryAt b) alike (b .len)
-
-  number-alike : (b : Buffer) (w : ℕ) → length (entriesOf w (entriesLent (b .len) (b .threads) (b .words))) ≡ length (entriesOf w (waiting b))
-  number-alike b w = count-alike _ _ (entry b) (entryAt b) (λ i. refl) (b .len)
-
-  length-alike : (b : Buffer) → length (entriesLent (b .len) (b .threads) (b .words)) ≡ length (waiting b)
-  length-alike b = length-listed (b .len) (entry b) ∙ sym (length-listed (b .len) (entryAt b))
 
   limits-alike : withinLimits lent ≡ withinLimits whole
   unfolding withinLimits lineLimits entryLimits
   limits-alike =
       rw (
         lines-alike lineLimits (λ i. refl),
-        length-alike us,
-        length-alike rs,
-        entries-alike (entryLimits words) (entryLimits words) us (λ i. refl),
-        entries-alike (entryLimits words) (entryLimits words) rs (λ i. refl),
+        u .number,
+        r .number,
+        u .each (entryLimits words) (entryLimits words) (λ e. refl),
+        r .each (entryLimits words) (entryLimits words) (λ e. refl),
       )
 
   dirty-alike : dirtyWait lent ≡ dirtyWait whole
   unfolding dirtyWait
   dirty-alike =
       ap₂ (λ (s t : Bool). s && t)
-      (all-alike _ _ (λ i. i) (λ i. i)
-      (λ w. ap₂ (λ (s k : ℕ). not (eqb s Dirty) || eqb k 1) (state-alike w) (number-alike us w)) words)
-      (entries-alike _ _ us (λ i. ap (λ (s : ℕ). eqb s Dirty) (state-alike (entryAt us i .word))))
+      (all-alike _ _ (λ i. i) (λ i. i) (λ w. ap₂ (λ (s k : ℕ). not (eqb s Dirty) || eqb k 1) (state-alike w) (u .ofWord w)) words)
+      (u .each _ _ (λ e. ap (λ (s : ℕ). eqb s Dirty) (state-alike (e .word))))
 
   redo-alike : redoClean lent ≡ redoClean whole
   unfolding redoClean
-  redo-alike =
-      entries-alike _ _ rs
-      (λ i. ap₂ (λ (s k : ℕ). eqb s Clean && eqb k 1) (state-alike (entryAt rs i .word)) (number-alike rs (entryAt rs i .word)))
+  redo-alike = r .each _ _ (λ e. ap₂ (λ (s k : ℕ). eqb s Clean && eqb k 1) (state-alike (e .word)) (r .ofWord (e .word)))
 
   held-alike : entriesHeld lent ≡ entriesHeld whole
   unfolding entriesHeld
-  held-alike = ap₂ (λ (s t : Bool). s && t) (entries-alike _ _ us (holds us)) (entries-alike _ _ rs (holds rs))
+  held-alike = ap₂ (λ (s t : Bool). s && t) (u .each _ _ holds) (r .each _ _ holds)
     where
-      holds : (b : Buffer) (i : ℕ)
-          → eqb (entryAt b i .thread) (holderIn (lent .lines) (entryAt b i .word)) ≡ eqb (entryAt b i .thread) (holderIn (whole .lines) (entryAt b i .word))
-      holds b i = ap (eqb (entryAt b i .thread)) (holder-alike (entryAt b i .word))
+      holds : (e : Entry) → eqb (e .thread) (holderIn (lent .lines) (e .word)) ≡ eqb (e .thread) (holderIn (whole .lines) (e .word))
+      holds e = ap (eqb (e .thread)) (holder-alike (e .word))
 
   -- the parts that are lent decide
   pub lent-consistent : consistent lent ≡ consistent whole

@@ -471,14 +471,13 @@ module _ (m : Machine) (lines : length (m .lines) ≡ m .words / 8) where
 
 -- what the limits say of W and of the buffers
 pub limits-hold : (words slots head tail undos redos : ℕ) → inLimits words slots head tail undos redos ≡ true
-    → (words ≤ 512) × ((words % 8 ≡ 0) × ((undos ≤ 32) × (redos ≤ 32)))
+    → (words ≤ 512) × ((words % 8 ≡ 0) × ((undos ≤ 16) × (redos ≤ 32)))
 limits-hold words slots head tail undos redos t =
     let l = limits words slots head tail undos redos t in
     let w = halves (leb 8 words) (leb words 512 && eqb (words % 8) 0) (both-left (isWidth words) (leb 8 slots && leb slots 1024) (l .sizes)) in
     let v = halves (leb words 512) (eqb (words % 8) 0) (w .1) in
     let n = halves (leb undos 16) (leb redos 32) (l .entries) in
-    let few = leb-true undos 16 (n .0) in
-    (leb-true words 512 (v .0), (eqb-true (words % 8) 0 (v .1), (omega arith, leb-true redos 32 (n .1))))
+    (leb-true words 512 (v .0), (eqb-true (words % 8) 0 (v .1), (leb-true undos 16 (n .0), leb-true redos 32 (n .1))))
 
 -- the state that is lent
 module _ (words slots head tail : ℕ) (opened : List Bool) (holders states : List ℕ) (us : ℕ) (uthreads uwords : List ℕ) (rs : ℕ)

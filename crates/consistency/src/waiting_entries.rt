@@ -40,12 +40,13 @@ fn each_waits<'a>(
     holders: &'a [u8; 64],
     states: &mut [u16; 64],
     count: usize,
-    threads: &'a [u8; 32],
-    targets: &'a [u16; 32],
+    threads: &'a [u8],
+    targets: &'a [u16],
     wanted: u64,
     next: u64,
 ) -> bool
-    requires { ⌜ (words ≤ 512) × ((words % 8 ≡ 0) × ((length (now states) ≡ 64) × ((count ≤ 32) × (next < 4)))) ⌝ }
+    requires { ⌜ (words ≤ 512) × ((words % 8 ≡ 0) × ((length (now states) ≡ 64)
+        × ((count ≤ length (now threads)) × ((count ≤ length (now targets)) × (next < 4))))) ⌝ }
     ensures { λ r. ⌜ Walked wanted next words (now (holders .entry)) (now (states .entry))
         (entriesLent count (now (threads .entry)) (now (targets .entry))) r (now (states .exit)) ⌝ }
 {
@@ -67,10 +68,10 @@ pub fn undos_wait<'a>(
     holders: &'a [u8; 64],
     mut states: [u16; 64],
     count: usize,
-    threads: &'a [u8; 32],
-    targets: &'a [u16; 32],
+    threads: &'a [u8; 16],
+    targets: &'a [u16; 16],
 ) -> bool
-    requires { ⌜ (words ≤ 512) × ((words % 8 ≡ 0) × (count ≤ 32)) ⌝ }
+    requires { ⌜ (words ≤ 512) × ((words % 8 ≡ 0) × (count ≤ 16)) ⌝ }
     ensures { λ r. ⌜ r ≡ undosWait words (linesLent (words / 8) (now (holders .entry)) states)
         (entriesLent count (now (threads .entry)) (now (targets .entry))) ⌝ }
 {

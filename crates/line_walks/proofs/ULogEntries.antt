@@ -9,10 +9,11 @@ use borrow.Author.Tests.{lt-ltb, le-leb, lt-leb, leb-true, ltb-true}
 use lib.Dec.{ltb, leb}
 use lib.ListN.{length, length-append}
 use Rattle.parts.specs.declared.Entry.{Entry}
-use Rattle.parts.specs.declared.Buffer.{Buffer}
+use Rattle.parts.specs.declared.RedoBuffer.{RedoBuffer}
 use Rattle.parts.specs.declared.Line.{Line}
-use Rattle.parts.specs.Waiting.{waiting, added}
-use Rattle.parts.proofs.Waiting.{WholeBuffer, putEntry, withLength, whole-put, waiting-added, added-by}
+use Rattle.parts.specs.Waiting.{redosWaiting, added}
+use Rattle.parts.specs.Listed.{listed}
+use Rattle.parts.proofs.Waiting.{WholeKeys, redoAt, putEntry, redo-added, added-by}
 use Rattle.model.specs.Lists.{keep, upTo}
 use Rattle.model.proofs.Lists.{both-left, both-right}
 use Rattle.model.proofs.FirstNumbers.{keep-next}
@@ -34,17 +35,11 @@ is-there first words t e h =
       leb-true words 512 (both-right (leb (first + 8) words) (leb words 512) f),
     )
 
--- an entry put, with another length, leaves as many places
-pub whole-added : (b : Buffer) (i : ℕ) (e : Entry) (n : ℕ) → WholeBuffer b → WholeBuffer (withLength (putEntry b i e) n)
-whole-added b i e n w =
-    let p = whole-put b i e w in
-    record { threads = p .threads; words = p .words; undos = p .undos; redos = p .redos }
-
 -- one entry more is added last
-added-last : (xs : List Entry) (x : Entry) (es : List Entry) → addedAll (xs ++ (x ∷ [])) es ≡ added x (addedAll xs es)
+added-last : (xs : List Entry) (x : Entry) (es : List Entry) → addedAll (xs ++ (x ∷ [])) es ≡ added 32 x (addedAll xs es)
 unfolding addedAll
 added-last [] x es = refl
-added-last (y ∷ xs) x es = added-last xs x (added y es)
+added-last (y ∷ xs) x es = added-last xs x (added 32 y es)
 
 -- entries for which there are places are put last
 pub added-all : (xs es : List Entry) → length es + length xs ≤ 32 → addedAll xs es ≡ es ++ xs
@@ -73,7 +68,7 @@ module _ (line : Line) (working : List ℕ) (first : ℕ) where
 
   -- one word more: its entry is added, if it is ULog
   pub added-next : (es : List Entry) (j : ℕ) (t : Bool) → isULog line j ≡ t
-      → cond t (added (ulogEntry line working first j) (addedAll (upToWord j) es)) (addedAll (upToWord j) es) ≡ addedAll (upToWord (j + 1)) es
+      → cond t (added 32 (ulogEntry line working first j) (addedAll (upToWord j) es)) (addedAll (upToWord j) es) ≡ addedAll (upToWord (j + 1)) es
   added-next es j true e =
       sym (ap (λ (ws : List ℕ). addedAll (map (ulogEntry line working first) ws) es) (keep-next (isULog line) j true e)
       ∙ ap (λ (xs : List Entry). addedAll xs es) (map-append (ulogEntry line working first) (keep (isULog line) (upTo j)) (j ∷ []))
@@ -83,25 +78,25 @@ module _ (line : Line) (working : List ℕ) (first : ℕ) where
       (keep-next (isULog line) j false e ∙ append-nil (keep (isULog line) (upTo j))))
 
   -- as the code has it: the entry is put next after the last, if the word is ULog and there is a place
-  module _ (b : Buffer) (es : List Entry) (j : ℕ) (before : waiting b ≡ addedAll (upToWord j) es) where
+  module _ (b : RedoBuffer) (es : List Entry) (j : ℕ) (before : redosWaiting b ≡ addedAll (upToWord j) es) where
     abbrev entry : Entry
     entry = ulogEntry line working first j
 
-    pub added-put : WholeBuffer b → (isULog line j && ltb (b .len) 32) ≡ true
-        → waiting (withLength (putEntry b (b .len) entry) (b .len + 1)) ≡ addedAll (upToWord (j + 1)) es
+    pub added-put : WholeKeys 32 (b .threads) (b .words) (b .redos) → (isULog line j && ltb (b .len) 32) ≡ true
+        → listed (b .len + 1) (putEntry (b .threads) (b .words) [] (b .redos) (b .len) entry) ≡ addedAll (upToWord (j + 1)) es
     added-put whole t =
         let place : ltb (b .len) 32 ≡ true = both-right (isULog line j) (ltb (b .len) 32) t in
-        waiting-added b entry whole (ltb-true (b .len) 32 place)
-        ∙ added-by b entry true place
-        ∙ ap (added entry) before
+        redo-added (b .threads) (b .words) (b .redos) 32 (b .len) entry whole refl (ltb-true (b .len) 32 place)
+        ∙ added-by 32 (b .len) (redoAt b) entry true place
+        ∙ ap (added 32 entry) before
         ∙ added-next es j true (both-left (isULog line j) (ltb (b .len) 32) t)
 
-    pub added-not : (isULog line j && ltb (b .len) 32) ≡ false → waiting b ≡ addedAll (upToWord (j + 1)) es
+    pub added-not : (isULog line j && ltb (b .len) 32) ≡ false → redosWaiting b ≡ addedAll (upToWord (j + 1)) es
     added-not t = pick (isULog line j) refl
       where
-        pick : (u : Bool) → isULog line j ≡ u → waiting b ≡ addedAll (upToWord (j + 1)) es
+        pick : (u : Bool) → isULog line j ≡ u → redosWaiting b ≡ addedAll (upToWord (j + 1)) es
         pick true e =
-            added-by b entry false (rw e at t)
-            ∙ ap (added entry) before
+            added-by 32 (b .len) (redoAt b) entry false (rw e at t)
+            ∙ ap (added 32 entry) before
             ∙ added-next es j true e
         pick false e = before ∙ added-next es j false e

@@ -9,14 +9,15 @@ use borrow.Author.Tests.{le-leb, lt-leb}
 use lib.ListN.{length, getD, set, take}
 use lib.Seq.{set-getD, take-all}
 use Rattle.parts.specs.declared.Entry.{Entry}
-use Rattle.parts.specs.declared.Buffer.{Buffer}
+use Rattle.parts.specs.declared.UndoBuffer.{UndoBuffer}
 use Rattle.parts.specs.declared.Line.{Line}
 use Rattle.parts.specs.declared.Lines.{Lines}
-use Rattle.parts.specs.Waiting.{entryAt, waiting}
+use Rattle.parts.specs.Waiting.{undosWaiting}
 use Rattle.parts.specs.Lines.{lineAt, firstLines, putLine}
 use Rattle.parts.specs.States.{withState, URLog}
 use Rattle.parts.proofs.Listed.{length-listed}
 use Rattle.parts.proofs.FirstLines.{WholeLines}
+use Rattle.parts.proofs.Waiting.{undoAt}
 use Rattle.parts.proofs.Oldest.{take-more}
 use Rattle.model.specs.Machine.{statesAs, marked, allLogged}
 use Rattle.model.proofs.LinesInUse.{first-changed}
@@ -49,33 +50,33 @@ logged-last [] e ls = refl
 logged-last (d ∷ es) e ls = logged-last es e (marked URLog (d .word) ls)
 
 -- the same of the oldest entries of a buffer
-pub logged-more : (b : Buffer) (i : ℕ) (ls before after : List Line) → i < b .len → before ≡ allLogged (take i (waiting b)) ls
-    → after ≡ marked URLog (entryAt b i .word) before → after ≡ allLogged (take (i + 1) (waiting b)) ls
+pub logged-more : (b : UndoBuffer) (i : ℕ) (ls before after : List Line) → i < b .len → before ≡ allLogged (take i (undosWaiting b)) ls
+    → after ≡ marked URLog (undoAt b i .word) before → after ≡ allLogged (take (i + 1) (undosWaiting b)) ls
 logged-more b i ls before after h e f =
-    f ∙ ap (marked URLog (entryAt b i .word)) e ∙ sym (logged-last (take i (waiting b)) (entryAt b i) ls)
-    ∙ ap (λ (es : List Entry). allLogged es ls) (sym (take-more b i h))
+    f ∙ ap (marked URLog (undoAt b i .word)) e ∙ sym (logged-last (take i (undosWaiting b)) (undoAt b i) ls)
+    ∙ ap (λ (es : List Entry). allLogged es ls) (sym (take-more (b .len) (undoAt b) i h))
 
 -- of a buffer that is no longer than it can be, the oldest entries are its first
-pub oldest-all : (k : ℕ) (b : Buffer) → b .len ≤ 32 → oldest k b ≡ take k (waiting b)
+pub oldest-all : (k : ℕ) (b : UndoBuffer) → b .len ≤ 16 → oldest k b ≡ take k (undosWaiting b)
 unfolding oldest
-oldest-all k b h = ap (λ (t : Bool). cond t (take k (waiting b)) []) (le-leb (b .len) 32 h)
+oldest-all k b h = ap (λ (t : Bool). cond t (take k (undosWaiting b)) []) (le-leb (b .len) 16 h)
 
 -- of which as many are taken as wait
-pub oldest-least : (k : ℕ) (b : Buffer) → b .len ≤ 32 → take (min k (b .len)) (waiting b) ≡ oldest k b
+pub oldest-least : (k : ℕ) (b : UndoBuffer) → b .len ≤ 16 → take (min k (b .len)) (undosWaiting b) ≡ oldest k b
 oldest-least k b h =
-    let l : length (waiting b) ≡ b .len = length-listed (b .len) (entryAt b) in
+    let l : length (undosWaiting b) ≡ b .len = length-listed (b .len) (undoAt b) in
     elim (decLt k (b .len)) [
       | yes p ↦
           let e : min k (b .len) ≡ k = omega arith in
-          ap (λ (n : ℕ). take n (waiting b)) e
+          ap (λ (n : ℕ). take n (undosWaiting b)) e
       | no q ↦
-          let e : length (waiting b) ≤ min k (b .len) = omega arith in
-          let f : length (waiting b) ≤ k = omega arith in
-          take-all (min k (b .len)) (waiting b) e ∙ sym (take-all k (waiting b) f)
+          let e : length (undosWaiting b) ≤ min k (b .len) = omega arith in
+          let f : length (undosWaiting b) ≤ k = omega arith in
+          take-all (min k (b .len)) (undosWaiting b) e ∙ sym (take-all k (undosWaiting b) f)
     ]
     ∙ sym (oldest-all k b h)
 
 -- a longer one has none
-pub oldest-over : (k : ℕ) (b : Buffer) → 32 < b .len → [] ≡ oldest k b
+pub oldest-over : (k : ℕ) (b : UndoBuffer) → 16 < b .len → [] ≡ oldest k b
 unfolding oldest
-oldest-over k b h = ap (λ (t : Bool). cond t (take k (waiting b)) []) (sym (lt-leb (b .len) 32 h))
+oldest-over k b h = ap (λ (t : Bool). cond t (take k (undosWaiting b)) []) (sym (lt-leb (b .len) 16 h))

@@ -6,18 +6,18 @@ use lib.Dec.{eqb, leb, ltb}
 use lib.ListN.{length, getD, take}
 use Rattle.log.specs.Stores.{Store}
 use Rattle.parts.specs.declared.Entry.{Entry}
-use Rattle.parts.specs.declared.Buffer.{Buffer}
+use Rattle.parts.specs.declared.UndoBuffer.{UndoBuffer}
 use Rattle.parts.specs.declared.Line.{Line}
 use Rattle.parts.specs.declared.Lines.{Lines}
 use Rattle.parts.specs.Lines.{lineAt}
 use Rattle.parts.specs.States.{stateAt, ULog}
-use Rattle.parts.specs.Waiting.{waiting, added}
+use Rattle.parts.specs.Waiting.{undosWaiting, added}
 use Rattle.model.specs.Lists.{keep, upTo}
 use Rattle.model.specs.Steps.{lineWrites, released}
 
--- the k oldest entries of a buffer, or as many as wait; a buffer whose length is over 32, which no buffer has that was built here, gives none
-unfoldable pub oldest : ℕ → Buffer → List Entry
-oldest k b = cond (leb (b .len) 32) (take k (waiting b)) []
+-- the k oldest undo+redo entries, or as many as wait; a buffer whose length is over 16, which none has that was built here, gives none
+unfoldable pub oldest : ℕ → UndoBuffer → List Entry
+oldest k b = cond (leb (b .len) 16) (take k (undosWaiting b)) []
 
 -- word j of a line is ULog
 abbrev pub isULog : Line → ℕ → Bool
@@ -35,10 +35,10 @@ ulogEntries line working first =
     (map (ulogEntry line working first) (keep (isULog line) (upTo 8)))
     []
 
--- entries added one after the other, while there is a place
+-- redo entries added one after the other, while one of the 32 places is left
 unfoldable pub addedAll : List Entry → List Entry → List Entry
 addedAll [] es = es
-addedAll (x ∷ xs) es = addedAll xs (added x es)
+addedAll (x ∷ xs) es = addedAll xs (added 32 x es)
 
 -- "its 8 working words are stored, rising": those of a line that is there
 unfoldable pub lineStores : List ℕ → ℕ → List Store

@@ -4,12 +4,12 @@ ghost use mathlib.Core.Bool.{_&&_};
 ghost use Prim.Native.Nat.{ℕ, _+_, _≤_};
 ghost use lib.Dec.{leb, ltb};
 ghost use Rattle.parts.specs.Lines.{firstLines};
-ghost use Rattle.parts.specs.Waiting.{waiting};
+ghost use Rattle.parts.specs.Waiting.{redosWaiting};
 ghost use Rattle.model.specs.Machine.{statesAs, changed};
 ghost use Rattle.line_walks.specs.Walks.{isULog, ulogEntries, addedAll};
-use parts::Buffer;
 use parts::Line;
 use parts::Lines;
+use parts::RedoBuffer;
 
 // The eight words from `first` on are there, among at most 512.
 fn is_there(first: usize, words: usize) -> bool
@@ -31,8 +31,8 @@ fn adds(line: Line, j: u64, len: usize) -> bool
 }
 
 // A buffer with a redo entry added for each ULog word of a line, rising, `first` being the line's first word.
-pub fn add_ulog(buffer: Buffer, line: Line, working: &[u64], first: usize) -> Buffer
-    ensures { λ (r : Buffer). ⌜ waiting r ≡ addedAll (ulogEntries line (now (working .entry)) first) (waiting buffer) ⌝ }
+pub fn add_ulog(buffer: RedoBuffer, line: Line, working: &[u64], first: usize) -> RedoBuffer
+    ensures { λ (r : RedoBuffer). ⌜ redosWaiting r ≡ addedAll (ulogEntries line (now (working .entry)) first) (redosWaiting buffer) ⌝ }
 {
     if !is_there(first, working.len()) {
         return buffer;
@@ -45,7 +45,6 @@ pub fn add_ulog(buffer: Buffer, line: Line, working: &[u64], first: usize) -> Bu
         if adds(line, j as u64, len) {
             grown.threads[len] = line.holder;
             grown.words[len] = at as u16;
-            grown.undos[len] = 0;
             grown.redos[len] = working[at];
             grown.len = len + 1;
         }

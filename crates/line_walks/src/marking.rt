@@ -7,8 +7,8 @@ ghost use Rattle.parts.specs.States.{withState};
 ghost use Rattle.model.specs.Machine.{allLogged};
 ghost use Rattle.line_walks.specs.Walks.{oldest};
 use crate::least;
-use parts::Buffer;
 use parts::Lines;
+use parts::UndoBuffer;
 
 // The state of a word replaced, in the states of all 64 lines. There are four states; a word past the last line has none.
 pub fn mark(states: &mut [u16; 64], word: u16, state: u64)
@@ -22,10 +22,10 @@ pub fn mark(states: &mut [u16; 64], word: u16, state: u64)
 }
 
 // The lines after the `count` oldest undo+redo entries are logged: their words become URLog.
-pub fn all_logged(lines: Lines, entries: Buffer, count: usize) -> Lines
+pub fn all_logged(lines: Lines, entries: UndoBuffer, count: usize) -> Lines
     ensures { λ (r : Lines). ⌜ ((n : ℕ) → n ≤ 64 → firstLines n r ≡ allLogged (oldest count entries) (firstLines n lines)) ⌝ }
 {
-    if 32 < entries.len {
+    if 16 < entries.len {
         return lines;
     }
     let end = least(count, entries.len);

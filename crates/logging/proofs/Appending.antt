@@ -10,8 +10,7 @@ use Rattle.log.specs.Region.{slotsFor, slotsOf, recordStores, recordsStores}
 use Rattle.log.proofs.Stored.{length-stored, under-append, under-none}
 use Rattle.log.proofs.Appending.{records-none, records-one, records-append}
 use Rattle.parts.specs.declared.Entry.{Entry}
-use Rattle.parts.specs.declared.Buffer.{Buffer}
-use Rattle.parts.specs.Waiting.{entryAt, waiting}
+use Rattle.parts.specs.Listed.{listed}
 use Rattle.parts.proofs.Oldest.{length-oldest, take-more}
 
 -- The log after the records rs were appended to it under a supply of c stores, the first of them as record n, and what is left of the supply.
@@ -55,14 +54,14 @@ appended-then {c} {n} {k} {rest} {before} {between} {after} rs ss first second =
       log = rw e (log ∙ ap₂ (λ (j : ℕ) (x : List ℕ). storedUnder j x ys) k-left (first .log) ∙ sym (under-append c before xs ys));
     }
 
--- the next of a buffer's oldest entries, f giving its record
-pub appended-more : {c n k rest : ℕ} {before between after : List ℕ} (f : Entry → Record) (b : Buffer) (i : ℕ) → i < b .len
-    → Appended c before n (map f (take i (waiting b))) between k
-    → rest ≡ k - length (recordStores (slotsOf between) (n + i) (f (entryAt b i)))
-    → after ≡ storedUnder k between (recordStores (slotsOf between) (n + i) (f (entryAt b i)))
-    → Appended c before n (map f (take (i + 1) (waiting b))) after rest
-appended-more {c} {n} {k} {rest} {before} {between} {after} f b i h first left log =
-    let rs : List Record = map f (take i (waiting b)) in
-    let size : length rs ≡ i = length-oldest f i b (omega arith) in
-    let one : Appended k between (n + length rs) (f (entryAt b i) ∷ []) after rest = rw size (appended-one (f (entryAt b i)) left log) in
-    rw (take-more b i h, map-append) (appended-then rs (f (entryAt b i) ∷ []) first one)
+-- the next of the oldest entries, f giving its record
+pub appended-more : {c n k rest : ℕ} {before between after : List ℕ} (f : Entry → Record) (len : ℕ) (at : ℕ → Entry) (i : ℕ) → i < len
+    → Appended c before n (map f (take i (listed len at))) between k
+    → rest ≡ k - length (recordStores (slotsOf between) (n + i) (f (at i)))
+    → after ≡ storedUnder k between (recordStores (slotsOf between) (n + i) (f (at i)))
+    → Appended c before n (map f (take (i + 1) (listed len at))) after rest
+appended-more {c} {n} {k} {rest} {before} {between} {after} f len at i h first left log =
+    let rs : List Record = map f (take i (listed len at)) in
+    let size : length rs ≡ i = length-oldest f i len at (omega arith) in
+    let one : Appended k between (n + length rs) (f (at i) ∷ []) after rest = rw size (appended-one (f (at i)) left log) in
+    rw (take-more len at i h, map-append) (appended-then rs (f (at i) ∷ []) first one)

@@ -4,4 +4,5 @@ pub mod Progressing
 pub mod LineWords
 pub mod NewestWords
 pub mod Guards
+pub mod OldestLoop
 pub mod WholeCommit

@@ -8,9 +8,10 @@ ghost use Rattle.log.specs.Region.{numbers};
 ghost use Rattle.parts.specs.Lines.{firstLines};
 ghost use Rattle.logging.specs.Newest.{linesOf, newestWords, newestInLine, ulogWord, redosOf};
 ghost use Rattle.logging.specs.Progressed.{Progressed, Stored};
-ghost use Rattle.logging.specs.Records.{bufferOf, commitRecordsOf};
+ghost use Rattle.logging.specs.Records.{undoBufferOf, redoBufferOf, commitRecordsOf};
 use crate::NUMBERS;
-use crate::oldest::append_entries;
+use crate::redos::append_redos;
+use crate::undos::append_undos;
 use log::Record;
 
 // Where appending has come to: the number of the next record, and what is left of the supply.
@@ -109,14 +110,13 @@ pub fn append_commit<'a>(
     working: &[u64],
     number: u64,
     undos: usize,
-    undo_threads: &'a [u8; 32],
-    undo_words: &'a [u16; 32],
-    undo_undos: &'a [u64; 32],
-    undo_redos: &'a [u64; 32],
+    undo_threads: &'a [u8; 16],
+    undo_words: &'a [u16; 16],
+    undo_undos: &'a [u64; 16],
+    undo_redos: &'a [u64; 16],
     redos: usize,
     redo_threads: &'a [u8; 32],
     redo_words: &'a [u16; 32],
-    redo_undos: &'a [u64; 32],
     redo_redos: &'a [u64; 32],
     holders: &'a [u8; 64],
     states: &'a [u16; 64],
@@ -124,19 +124,19 @@ pub fn append_commit<'a>(
     supply: u64,
 ) -> u64
     ensures { λ r. ⌜ ((dirty : List Bool) → Stored supply (now (log .entry)) number (commitRecordsOf
-        (bufferOf undos (now («undo_threads» .entry)) (now («undo_words» .entry)) (now («undo_undos» .entry)) (now («undo_redos» .entry)))
-        (bufferOf redos (now («redo_threads» .entry)) (now («redo_words» .entry)) (now («redo_undos» .entry)) (now («redo_redos» .entry)))
+        (undoBufferOf undos (now («undo_threads» .entry)) (now («undo_words» .entry)) (now («undo_undos» .entry)) (now («undo_redos» .entry)))
+        (redoBufferOf redos (now («redo_threads» .entry)) (now («redo_words» .entry)) (now («redo_redos» .entry)))
         (linesOf (now (holders .entry)) dirty (now (states .entry))) (now (working .entry)) thread) (now (log .exit)) r) ⌝ }
 {
     let words = working.len();
-    let short = (undos <= 32) & (redos <= 32);
+    let short = (undos <= 16) & (redos <= 32);
     let fit = short & ((words <= 512) & (words % 8 == 0));
     if (NUMBERS <= number) | !fit {
         return supply;
     }
     let second = number + undos as u64;
     let third = second + redos as u64;
-    let left = append_entries(
+    let left = append_undos(
         log,
         number,
         undos,
@@ -145,19 +145,16 @@ pub fn append_commit<'a>(
         undo_undos,
         undo_redos,
         undos,
-        true,
         supply,
     );
-    let rest = append_entries(
+    let rest = append_redos(
         log,
         second,
         redos,
         redo_threads,
         redo_words,
-        redo_undos,
         redo_redos,
         redos,
-        false,
         left,
     );
     let start = Progress {

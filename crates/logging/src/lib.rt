@@ -5,13 +5,14 @@ ghost use Prim.Native.Nat.{min};
 
 mod commit;
 mod newest;
-mod oldest;
+mod redos;
+mod undos;
 
 pub use commit::append_commit;
 pub use newest::count_newest;
 pub use newest::count_ulog;
-pub use oldest::append_entries;
-pub use oldest::append_oldest;
+pub use redos::append_redos;
+pub use undos::append_undos;
 
 // Record numbers are below this.
 const NUMBERS: u64 = 0x1_0000_0000_0000;

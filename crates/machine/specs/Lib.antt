@@ -1,5 +1,2 @@
--- What the code's state and steps mean, and what the functions of each step compute.
+-- What the machine's state and answers mean.
 pub mod View
-pub mod Deleting
-pub mod Committing
-pub mod Recovering

@@ -1,31 +1,15 @@
 -- The state of the code as the state of the model, and what a step hands back as the model's outcome.
-use Prim.Native.Nat.{ℕ, _/_}
+use Prim.Native.Nat.{ℕ}
 use mathlib.Core.List.{List}
-use Rattle.parts.specs.Waiting.{waiting}
-use Rattle.parts.specs.Lines.{firstLines}
-use Rattle.model.specs.Machine.{Machine, Memory}
+use Rattle.model.specs.Machine.{Machine}
 use Rattle.model.specs.Plan.{Outcome}
+use Rattle.steps.specs.View.{memory}
+use Rattle.steps.specs.View as steps
 use Rattle.machine.specs.declared.State.{State}
 use Rattle.machine.specs.declared.Answer.{Answer}
 
--- the first W/8 lines and the entries that wait are the state; places that are not in use mean nothing
 abbrev pub view : State → Machine
-view s =
-    record {
-      lost = s .lost;
-      words = s .words;
-      slots = s .slots;
-      head = s .head;
-      tail = s .tail;
-      opened = s .opened;
-      lines = firstLines (s .words / 8) (s .lines);
-      undoRedo = waiting (s .undos);
-      redo = waiting (s .redos);
-    }
-
--- the three lent buffers
-abbrev pub memory : List ℕ → List ℕ → List ℕ → Memory
-memory home working log = record { home = home; working = working; log = log }
+view s = steps.view (s .fields)
 
 -- an answer with the buffers after the step
 abbrev pub shown : Answer → List ℕ → List ℕ → List ℕ → Outcome

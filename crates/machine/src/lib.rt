@@ -1,34 +1,12 @@
-// The step machine of document 01: its state, and a method for each of the nine steps. Each hands back what the model's definition
-// of the step gives.
-use parts::Buffer;
-use parts::Lines;
+// The step machine of document 01: its state, with a method for each of the nine steps and one for a step given as a value. Each hands
+// back what the model's definition of the step gives.
+use steps::Fields;
 
-mod begin;
-mod committing;
-mod deleting;
-mod evicting;
-mod log_oldest;
-mod places;
-mod recovering;
-mod refusals;
-mod sizes;
-mod soundness;
-mod storing;
-mod ways_out;
-mod words;
-mod writing_back;
+mod methods;
 
-// The state. `lost` is document 01's "dark". `lines` and the buffers may have places that are not in use.
+// The state. The steps themselves are functions of its fields, in crate `steps`.
 pub struct State {
-    pub lost: bool,
-    pub words: u16,
-    pub slots: u16,
-    pub head: u64,
-    pub tail: u64,
-    pub opened: [bool; 8],
-    pub lines: Lines,
-    pub undos: Buffer,
-    pub redos: Buffer,
+    pub fields: Fields,
 }
 
 // What a step hands back: the answer's number, the count left, and the state.
@@ -37,39 +15,3 @@ pub struct Answer {
     pub left: u64,
     pub state: State,
 }
-
-// "0 (done)" and "255 (cut)"
-pub const DONE: u64 = 0;
-
-pub const CUT: u64 = 255;
-
-// The refusals, by document 01's numbers. LOST is its "dark", INCONSISTENT its "unsound", EXHAUSTED its "worn".
-pub const SIZE: u64 = 1;
-
-pub const LOST: u64 = 2;
-
-pub const INCONSISTENT: u64 = 3;
-
-pub const THREAD: u64 = 4;
-
-pub const PLACE: u64 = 5;
-
-pub const IDLE: u64 = 6;
-
-pub const BUSY: u64 = 7;
-
-pub const HELD: u64 = 8;
-
-pub const PENDING: u64 = 9;
-
-pub const FULL: u64 = 10;
-
-pub const EXHAUSTED: u64 = 11;
-
-pub const NOTHING: u64 = 12;
-
-pub const HEAD: u64 = 13;
-
-pub const DAMAGED: u64 = 14;
-
-pub const NEEDED: u64 = 15;

@@ -8,39 +8,39 @@ use native.Mathlib.Omega.{arith}
 use borrow.Author.Tests.{eq-eqb, ne-eqb}
 use lib.Dec.{eqb}
 use lib.ListN.{length, getD, set, take, drop, drop-of-length-le}
-use lib.Seq.{drop-cons, set-getD, set-out}
+use lib.Seq.{drop-cons, getD-set-same, getD-set-other, set-out}
 use Rattle.parts.specs.declared.Entry.{Entry}
-use Rattle.parts.specs.declared.Buffer.{Buffer}
-use Rattle.parts.specs.Waiting.{entryAt, waiting, discarded, withRedo, amended, placeOf}
-use Rattle.parts.proofs.Listed.{length-listed, getD-listed}
-use Rattle.parts.proofs.Waiting.{WholeBuffer, putEntry, waiting-put}
+use Rattle.parts.specs.Listed.{listed}
+use Rattle.parts.specs.Waiting.{entryOf, waitingOf, discarded, withRedo, amended, placeOf}
+use Rattle.parts.proofs.Listed.{length-listed, getD-listed, set-listed}
 
--- the place of a word's oldest entry, looked for from place i on
-place-from : (w : ℕ) (b : Buffer) (i : ℕ) (t : Bool) → i < b .len → eqb (getD (b .words) i 0) w ≡ t
-    → placeOf w (drop i (waiting b)) ≡ cond t 0 (placeOf w (drop (i + 1) (waiting b)) + 1)
-unfolding placeOf
-place-from w b i t h found =
-    let l : length (waiting b) ≡ b .len = length-listed (b .len) (entryAt b) in
-    ap (placeOf w)
-    (drop-cons (waiting b) i (entryAt b i) (omega arith)
-    ∙ ap₂ (λ (x : Entry) (n : ℕ). x ∷ drop n (waiting b)) (getD-listed (b .len) (entryAt b) i (entryAt b i) h) (sym (add-one i)))
-    ∙ ap₂ (λ (s : Bool) (n : ℕ). cond s 0 n) found (sym (add-one (placeOf w (drop (i + 1) (waiting b)))))
+-- a word, and the n entries of a buffer
+module _ (w n : ℕ) (f : ℕ → Entry) where
+  -- the place of the word's oldest entry, looked for from place i on
+  place-from : (i : ℕ) (t : Bool) → i < n → eqb (f i .word) w ≡ t
+      → placeOf w (drop i (listed n f)) ≡ cond t 0 (placeOf w (drop (i + 1) (listed n f)) + 1)
+  unfolding placeOf
+  place-from i t h found =
+      let l : length (listed n f) ≡ n = length-listed n f in
+      ap (placeOf w)
+      (drop-cons (listed n f) i (f i) (omega arith)
+      ∙ ap₂ (λ (x : Entry) (k : ℕ). x ∷ drop k (listed n f)) (getD-listed n f i (f i) h) (sym (add-one i)))
+      ∙ ap₂ (λ (s : Bool) (k : ℕ). cond s 0 k) found (sym (add-one (placeOf w (drop (i + 1) (listed n f)))))
 
--- it is i, if the entry there is the word's
-pub place-here : (w : ℕ) (b : Buffer) (i : ℕ) → i < b .len → getD (b .words) i 0 ≡ w → placeOf w (drop i (waiting b)) ≡ 0
-place-here w b i h e = place-from w b i true h (eq-eqb (getD (b .words) i 0) w e)
+  -- it is i, if the entry there is the word's
+  pub place-here : (i : ℕ) → i < n → f i .word ≡ w → placeOf w (drop i (listed n f)) ≡ 0
+  place-here i h e = place-from i true h (eq-eqb (f i .word) w e)
 
--- it is further on, if the entry is another word's
-pub place-next : (w : ℕ) (b : Buffer) (i : ℕ) → i < b .len → (getD (b .words) i 0 ≡ w → ⊥)
-    → placeOf w (drop i (waiting b)) ≡ placeOf w (drop (i + 1) (waiting b)) + 1
-place-next w b i h ne = place-from w b i false h (ne-eqb (getD (b .words) i 0) w ne)
+  -- it is further on, if the entry is another word's
+  pub place-next : (i : ℕ) → i < n → (f i .word ≡ w → ⊥) → placeOf w (drop i (listed n f)) ≡ placeOf w (drop (i + 1) (listed n f)) + 1
+  place-next i h ne = place-from i false h (ne-eqb (f i .word) w ne)
 
--- and with no entry left it is none
-pub place-none : (w : ℕ) (b : Buffer) (i : ℕ) → b .len ≤ i → placeOf w (drop i (waiting b)) ≡ 0
-unfolding placeOf
-place-none w b i h =
-    let l : length (waiting b) ≤ i = rw length-listed h in
-    ap (placeOf w) (drop-of-length-le (waiting b) l)
+  -- and with no entry left it is none
+  pub place-none : (i : ℕ) → n ≤ i → placeOf w (drop i (listed n f)) ≡ 0
+  unfolding placeOf
+  place-none i h =
+      let l : length (listed n f) ≤ i = rw length-listed h in
+      ap (placeOf w) (drop-of-length-le (listed n f) l)
 
 -- a place is one of the list's, or next after the last
 place-le : (w : ℕ) (es : List Entry) → placeOf w es ≤ length es
@@ -51,8 +51,8 @@ place-le w (e ∷ es) =
     elim (eqb (e .word) w) as (λ (t : Bool). cond t 0 (suc (placeOf w es)) ≤ suc (length es)) [ true ↦ omega arith | false ↦ omega arith ]
 
 -- the same of a buffer
-pub place-within : (w : ℕ) (b : Buffer) → placeOf w (waiting b) ≤ b .len
-place-within w b = rw length-listed at (place-le w (waiting b))
+pub place-within : (w n : ℕ) (f : ℕ → Entry) → placeOf w (listed n f) ≤ n
+place-within w n f = rw length-listed at (place-le w (listed n f))
 
 -- discarded is the entry at the word's place
 discarded-place : (w : ℕ) (es : List Entry) → discarded w es ≡ take (placeOf w es) es ++ drop (suc (placeOf w es)) es
@@ -80,28 +80,25 @@ amended-place w v (e ∷ es) d =
     cond t (withRedo v e ∷ es) (e ∷ amended w v es) ≡ set (e ∷ es) p (withRedo v (getD (e ∷ es) p d)))
     [ true ↦ refl | false ↦ ap (λ (r : List Entry). e ∷ r) (amended-place w v es d) ]
 
--- the redo of the entry at a place replaced
-abbrev pub putRedo : Buffer → ℕ → ℕ → Buffer
-putRedo b i v =
-    record { len = b .len; threads = b .threads; words = b .words; undos = b .undos; redos = set (b .redos) i v }
-
--- which is to put the entry anew, with the other redo
-redo-put : (b : Buffer) (i v : ℕ) → putEntry b i (withRedo v (entryAt b i)) ≡ putRedo b i v
-redo-put b i v = simp set-getD
-
 -- of a word that has an entry, the redo at its place is replaced
-pub amended-at : (w v : ℕ) (b : Buffer) (at : ℕ) → WholeBuffer b → b .len ≤ 32 → at < b .len → at ≡ placeOf w (waiting b)
-    → waiting (putRedo b at v) ≡ amended w v (waiting b)
-amended-at w v b at l h p e =
-    let d : Entry = entryAt b at in
-    ap waiting (sym (redo-put b at v)) ∙ waiting-put b at (withRedo v d) l h
-    ∙ ap (λ (x : Entry). set (waiting b) at (withRedo v x)) (sym (getD-listed (b .len) (entryAt b) at d p))
-    ∙ ap (λ (n : ℕ). set (waiting b) n (withRedo v (getD (waiting b) n d))) e
-    ∙ sym (amended-place w v (waiting b) d)
+pub amended-at : (w v len : ℕ) (threads words undos redos : List ℕ) (at : ℕ) → len ≤ length redos → at < len
+    → at ≡ placeOf w (waitingOf len threads words undos redos)
+    → waitingOf len threads words undos (set redos at v) ≡ amended w v (waitingOf len threads words undos redos)
+amended-at w v len threads words undos redos at h p e =
+    let f = entryOf threads words undos redos in
+    let es : List Entry = listed len f in
+    let d : Entry = f at in
+    sym (set-listed len f (entryOf threads words undos (set redos at v)) at (withRedo v d)
+    (λ l. ap (λ (r : ℕ). withRedo r d) (getD-set-same redos at v 0 (omega arith)))
+    (λ k ne. ap (λ (r : ℕ). withRedo r (f k)) (getD-set-other redos at k v 0 ne)))
+    ∙ ap (λ (x : Entry). set es at (withRedo v x)) (sym (getD-listed len f at d p))
+    ∙ ap (λ (n : ℕ). set es n (withRedo v (getD es n d))) e
+    ∙ sym (amended-place w v es d)
 
 -- of a word that has none, nothing is
-pub amended-none : (w v : ℕ) (b : Buffer) (at : ℕ) → b .len ≤ at → at ≡ placeOf w (waiting b) → waiting b ≡ amended w v (waiting b)
-amended-none w v b at h e =
-    let l : length (waiting b) ≤ placeOf w (waiting b) = rw length-listed (rw e at h) in
-    let d : Entry = entryAt b at in
-    sym (amended-place w v (waiting b) d ∙ set-out (waiting b) (placeOf w (waiting b)) (withRedo v (getD (waiting b) (placeOf w (waiting b)) d)) l)
+pub amended-none : (w v n : ℕ) (f : ℕ → Entry) (at : ℕ) → n ≤ at → at ≡ placeOf w (listed n f) → listed n f ≡ amended w v (listed n f)
+amended-none w v n f at h e =
+    let l : length (listed n f) ≤ placeOf w (listed n f) = rw length-listed (rw e at h) in
+    let d : Entry = f at in
+    sym (amended-place w v (listed n f) d
+    ∙ set-out (listed n f) (placeOf w (listed n f)) (withRedo v (getD (listed n f) (placeOf w (listed n f)) d)) l)

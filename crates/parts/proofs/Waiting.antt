@@ -1,4 +1,4 @@
--- The entries that wait in a buffer, after an entry was put at a place or added.
+-- The entries that wait in a buffer, by the lists of their fields, after an entry was put at a place or added.
 use Prim.Native.Nat.{ℕ, _+_, _≤_, _<_}
 use mathlib.Core.Path.{_≡_, sym, ap, ap₂, _∙_}
 use mathlib.Core.Bool.{Bool, cond}
@@ -7,93 +7,100 @@ use native.Mathlib.Numerals.{add-one}
 use native.Mathlib.Omega.{arith}
 use borrow.Author.Tests.{le-leb, lt-leb}
 use lib.Dec.{ltb}
-use lib.ListN.{length, set, length-set, List·getD-eq-default}
+use lib.ListN.{length, getD, set, length-set}
 use lib.Seq.{getD-set-same, getD-set-other}
 use Rattle.parts.specs.declared.Entry.{Entry}
-use Rattle.parts.specs.declared.Buffer.{Buffer}
+use Rattle.parts.specs.declared.UndoBuffer.{UndoBuffer}
+use Rattle.parts.specs.declared.RedoBuffer.{RedoBuffer}
 use Rattle.parts.specs.Listed.{listed}
-use Rattle.parts.specs.Waiting.{entryAt, waiting, added, changed}
-use Rattle.parts.proofs.Listed.{length-listed, listed-ext, set-listed}
+use Rattle.parts.specs.Waiting.{entryOf, waitingOf, added, changedWithin}
+use Rattle.parts.proofs.Listed.{length-listed, listed-ext}
 
--- there are 32 places for each field, as in every value of the struct
-pub record WholeBuffer (b : Buffer) : Type 0 where
-  pub threads : length (b .threads) ≡ 32
-  pub words : length (b .words) ≡ 32
-  pub undos : length (b .undos) ≡ 32
-  pub redos : length (b .redos) ≡ 32
+-- the entry at a place of a buffer
+abbrev pub undoAt : UndoBuffer → ℕ → Entry
+undoAt b = entryOf (b .threads) (b .words) (b .undos) (b .redos)
 
--- the entry at a place replaced
-abbrev pub putEntry : Buffer → ℕ → Entry → Buffer
-putEntry b i e =
-    record {
-      len = b .len;
-      threads = set (b .threads) i (e .thread);
-      words = set (b .words) i (e .word);
-      undos = set (b .undos) i (e .undo);
-      redos = set (b .redos) i (e .redo);
-    }
+abbrev pub redoAt : RedoBuffer → ℕ → Entry
+redoAt b = entryOf (b .threads) (b .words) [] (b .redos)
 
--- the same entries' places with another length
-abbrev pub withLength : Buffer → ℕ → Buffer
-withLength b n = record { len = n; threads = b .threads; words = b .words; undos = b .undos; redos = b .redos }
+-- there are n places for each field that both buffers have, as in every value of the structs
+pub record WholeKeys (n : ℕ) (ts ws rs : List ℕ) : Type 0 where
+  pub threads : length ts ≡ n
+  pub words : length ws ≡ n
+  pub redos : length rs ≡ n
+
+-- and for the undos too
+pub record WholeBuffer (n : ℕ) (ts ws us rs : List ℕ) : Type 0 where
+  pub keys : WholeKeys n ts ws rs
+  pub undos : length us ≡ n
 
 -- two entries are equal, if their fields are
 entry-eq : (a b : Entry) → a .thread ≡ b .thread → a .word ≡ b .word → a .undo ≡ b .undo → a .redo ≡ b .redo → a ≡ b
 entry-eq a b t w u r = λ i. record { thread = t i; word = w i; undo = u i; redo = r i }
 
--- past the last place there is an entry of zeros
-pub entry-past : (b : Buffer) (i : ℕ) → WholeBuffer b → 32 ≤ i → record { thread = 0; word = 0; undo = 0; redo = 0 } ≡ entryAt b i
-entry-past b i w h =
-    entry-eq (record { thread = 0; word = 0; undo = 0; redo = 0 }) (entryAt b i)
-    (sym (List·getD-eq-default (b .threads) 0 (omega arith))) (sym (List·getD-eq-default (b .words) 0 (omega arith)))
-    (sym (List·getD-eq-default (b .undos) 0 (omega arith))) (sym (List·getD-eq-default (b .redos) 0 (omega arith)))
+-- the lists of the fields
+module _ (threads words undos redos : List ℕ) where
+  -- the entry at each place, after the one at place i was replaced
+  abbrev pub putEntry : ℕ → Entry → ℕ → Entry
+  putEntry i e = entryOf (set threads i (e .thread)) (set words i (e .word)) (set undos i (e .undo)) (set redos i (e .redo))
 
--- the entry that was put is there
-pub put-same : (b : Buffer) (i : ℕ) (e : Entry) → WholeBuffer b → i < 32 → entryAt (putEntry b i e) i ≡ e
-put-same b i e w h =
-    entry-eq (entryAt (putEntry b i e) i) e
-    (getD-set-same (b .threads) i (e .thread) 0 (omega arith)) (getD-set-same (b .words) i (e .word) 0 (omega arith))
-    (getD-set-same (b .undos) i (e .undo) 0 (omega arith)) (getD-set-same (b .redos) i (e .redo) 0 (omega arith))
+  -- the other entries remain
+  pub put-other : (i k : ℕ) (e : Entry) → (k ≡ i → ⊥) → putEntry i e k ≡ entryOf threads words undos redos k
+  put-other i k e ne = simp getD-set-other
 
--- the other entries remain
-pub put-other : (b : Buffer) (i k : ℕ) (e : Entry) → (k ≡ i → ⊥) → entryAt (putEntry b i e) k ≡ entryAt b k
-put-other b i k e ne = simp getD-set-other
+  -- the entry that was put is there, if its undo is
+  put-by : (n i : ℕ) (e : Entry) → WholeKeys n threads words redos → i < n → getD (set undos i (e .undo)) i 0 ≡ e .undo → putEntry i e i ≡ e
+  put-by n i e w h u =
+      entry-eq (putEntry i e i) e (getD-set-same threads i (e .thread) 0 (omega arith)) (getD-set-same words i (e .word) 0 (omega arith)) u
+      (getD-set-same redos i (e .redo) 0 (omega arith))
 
--- and no field has more or fewer places than before
-pub whole-put : (b : Buffer) (i : ℕ) (e : Entry) → WholeBuffer b → WholeBuffer (putEntry b i e)
-whole-put b i e w =
-    record {
-      threads = simp length-set (w .threads);
-      words = simp length-set (w .words);
-      undos = simp length-set (w .undos);
-      redos = simp length-set (w .redos);
-    }
+  -- an entry next after the last one waits after the others
+  added-put : (len : ℕ) (e : Entry) → putEntry len e len ≡ e → listed (len + 1) (putEntry len e) ≡ waitingOf len threads words undos redos ++ (e ∷ [])
+  unfolding listed
+  added-put len e h =
+      rw add-one
+      (ap₂ (λ (es : List Entry) (x : Entry). es ++ (x ∷ []))
+      (listed-ext len (putEntry len e) (entryOf threads words undos redos) (λ i l. put-other len i e (omega arith))) h)
 
--- an entry that is put replaces one of those that wait, or none
-pub waiting-put : (b : Buffer) (i : ℕ) (e : Entry) → WholeBuffer b → b .len ≤ 32 → waiting (putEntry b i e) ≡ set (waiting b) i e
-waiting-put b i e w h =
-    sym (set-listed (b .len) (entryAt b) (entryAt (putEntry b i e)) i e (λ l. put-same b i e w (omega arith)) (λ k ne. put-other b i k e ne))
+  -- an entry that was put in the undo+redo buffer is there
+  pub put-same : (n i : ℕ) (e : Entry) → WholeBuffer n threads words undos redos → i < n → putEntry i e i ≡ e
+  put-same n i e w h = put-by n i e (w .keys) h (getD-set-same undos i (e .undo) 0 (omega (arith, w .undos)))
 
--- an entry that is put next after the last, with a length to match, waits after the others
-pub waiting-added : (b : Buffer) (e : Entry) → WholeBuffer b → b .len < 32
-    → waiting (withLength (putEntry b (b .len) e) (b .len + 1)) ≡ waiting b ++ (e ∷ [])
-unfolding listed
-waiting-added b e w h =
-    rw add-one
-    (ap₂ (λ (es : List Entry) (x : Entry). es ++ (x ∷ []))
-    (listed-ext (b .len) (entryAt (putEntry b (b .len) e)) (entryAt b) (λ i l. put-other b (b .len) i e (omega arith)))
-    (put-same b (b .len) e w h))
+  -- one that is put next after the last, with a length to match, waits after the others
+  pub waiting-added : (n len : ℕ) (e : Entry) → WholeBuffer n threads words undos redos → len < n
+      → listed (len + 1) (putEntry len e) ≡ waitingOf len threads words undos redos ++ (e ∷ [])
+  waiting-added n len e w h = added-put len e (put-same n len e w h)
+
+-- the same of the redo buffer, in which an entry has no undo
+module _ (threads words redos : List ℕ) where
+  pub redo-same : (n i : ℕ) (e : Entry) → WholeKeys n threads words redos → e .undo ≡ 0 → i < n → putEntry threads words [] redos i e i ≡ e
+  redo-same n i e w u h = put-by threads words [] redos n i e w h (sym u)
+
+  pub redo-added : (n len : ℕ) (e : Entry) → WholeKeys n threads words redos → e .undo ≡ 0 → len < n
+      → listed (len + 1) (putEntry threads words [] redos len e) ≡ waitingOf len threads words [] redos ++ (e ∷ [])
+  redo-added n len e w u h = added-put threads words [] redos len e (redo-same n len e w u h)
+
+-- no field has more or fewer places after an entry was put
+pub keys-put : (n i t w r : ℕ) (threads words redos : List ℕ) → WholeKeys n threads words redos
+    → WholeKeys n (set threads i t) (set words i w) (set redos i r)
+keys-put n i t w r threads words redos k =
+    record { threads = simp length-set (k .threads); words = simp length-set (k .words); redos = simp length-set (k .redos) }
+
+pub whole-put : (n i t w u r : ℕ) (threads words undos redos : List ℕ) → WholeBuffer n threads words undos redos
+    → WholeBuffer n (set threads i t) (set words i w) (set undos i u) (set redos i r)
+whole-put n i t w u r threads words undos redos b =
+    record { keys = keys-put n i t w r threads words redos (b .keys); undos = simp length-set (b .undos) }
 
 -- whether there is a place for an entry is a test of the length
-pub added-by : (b : Buffer) (e : Entry) (t : Bool) → ltb (b .len) 32 ≡ t → cond t (waiting b ++ (e ∷ [])) (waiting b) ≡ added e (waiting b)
-added-by b e t h =
-    ap (λ (s : Bool). cond s (waiting b ++ (e ∷ [])) (waiting b))
-    (sym h ∙ ap (λ (n : ℕ). ltb n 32) (sym (length-listed (b .len) (entryAt b))))
+pub added-by : (n len : ℕ) (f : ℕ → Entry) (e : Entry) (t : Bool) → ltb len n ≡ t
+    → cond t (listed len f ++ (e ∷ [])) (listed len f) ≡ added n e (listed len f)
+added-by n len f e t h =
+    ap (λ (s : Bool). cond s (listed len f ++ (e ∷ [])) (listed len f)) (sym h ∙ ap (λ (k : ℕ). ltb k n) (sym (length-listed len f)))
 
--- a buffer of up to 32 entries is changed
-pub changed-within : (b : Buffer) (es : List Entry) → b .len ≤ 32 → es ≡ changed b es
-changed-within b es h = ap (λ (t : Bool). cond t es (waiting b)) (sym (le-leb (b .len) 32 h))
+-- a buffer whose length is within its places is changed
+pub changed-within : (most len : ℕ) (old new : List Entry) → len ≤ most → new ≡ changedWithin most len old new
+changed-within most len old new h = ap (λ (t : Bool). cond t new old) (sym (le-leb len most h))
 
 -- a longer one is not
-pub changed-over : (b : Buffer) (es : List Entry) → 32 < b .len → waiting b ≡ changed b es
-changed-over b es h = ap (λ (t : Bool). cond t es (waiting b)) (sym (lt-leb (b .len) 32 h))
+pub changed-over : (most len : ℕ) (old new : List Entry) → most < len → old ≡ changedWithin most len old new
+changed-over most len old new h = ap (λ (t : Bool). cond t new old) (sym (lt-leb len most h))

@@ -5,26 +5,30 @@ use mathlib.Core.List.{List, [], _∷_, _++_}
 use lib.Dec.{eqb, leb, ltb}
 use lib.ListN.{getD, length}
 use Rattle.parts.specs.declared.Entry.{Entry}
-use Rattle.parts.specs.declared.Buffer.{Buffer}
+use Rattle.parts.specs.declared.UndoBuffer.{UndoBuffer}
+use Rattle.parts.specs.declared.RedoBuffer.{RedoBuffer}
 use Rattle.parts.specs.Listed.{listed}
 
--- the entry at a place; past the last place an entry of zeros
-abbrev pub entryAt : Buffer → ℕ → Entry
-entryAt b i =
-    record {
-      thread = getD (b .threads) i 0;
-      word = getD (b .words) i 0;
-      undo = getD (b .undos) i 0;
-      redo = getD (b .redos) i 0;
-    }
+-- the entry at a place, by the lists of the fields; a field that has no such place is 0
+abbrev pub entryOf : List ℕ → List ℕ → List ℕ → List ℕ → ℕ → Entry
+entryOf threads words undos redos i =
+    record { thread = getD threads i 0; word = getD words i 0; undo = getD undos i 0; redo = getD redos i 0 }
 
--- the entries that wait in a buffer: as many as its length says
-abbrev pub waiting : Buffer → List Entry
-waiting b = listed (b .len) (entryAt b)
+-- the first entries, as many as a length says
+abbrev pub waitingOf : ℕ → List ℕ → List ℕ → List ℕ → List ℕ → List Entry
+waitingOf len threads words undos redos = listed len (entryOf threads words undos redos)
 
--- an entry added at the end, if there is a place for it
-abbrev pub added : Entry → List Entry → List Entry
-added e es = cond (ltb (length es) 32) (es ++ (e ∷ [])) es
+-- the entries that wait in the undo+redo buffer
+abbrev pub undosWaiting : UndoBuffer → List Entry
+undosWaiting b = waitingOf (b .len) (b .threads) (b .words) (b .undos) (b .redos)
+
+-- those that wait in the redo buffer: there are no undos, so that each is 0
+abbrev pub redosWaiting : RedoBuffer → List Entry
+redosWaiting b = waitingOf (b .len) (b .threads) (b .words) [] (b .redos)
+
+-- an entry added at the end, if one of n places is left for it
+abbrev pub added : ℕ → Entry → List Entry → List Entry
+added n e es = cond (ltb (length es) n) (es ++ (e ∷ [])) es
 
 -- "a redo entry of that word is discarded": the oldest one
 unfoldable pub discarded : ℕ → List Entry → List Entry
@@ -44,6 +48,6 @@ unfoldable pub placeOf : ℕ → List Entry → ℕ
 placeOf w [] = 0
 placeOf w (e ∷ es) = cond (eqb (e .word) w) 0 (suc (placeOf w es))
 
--- what waits after a change: a buffer whose length is over 32, which no buffer that was built here has, is left as it is
-abbrev pub changed : Buffer → List Entry → List Entry
-changed b es = cond (leb (b .len) 32) es (waiting b)
+-- what waits after a change: a buffer whose length is over its places, which none has that was built here, is left as it is
+abbrev pub changedWithin : ℕ → ℕ → List Entry → List Entry → List Entry
+changedWithin most len old new = cond (leb len most) new old

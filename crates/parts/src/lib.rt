@@ -1,6 +1,10 @@
-// The parts of the machine's state: a log buffer, and the lines with the states of their words.
-mod entries;
+// The parts of the machine's state: the two log buffers, and the lines with the states of their words.
+ghost use mathlib.Core.Path.{_≡_};
+ghost use Prim.Native.Nat.{min};
+
 mod line_states;
+mod redos;
+mod undos;
 
 pub use line_states::state_at;
 pub use line_states::with_state;
@@ -13,13 +17,20 @@ pub struct Entry {
     pub redo: u64,
 }
 
-// A log buffer of up to 32 entries, by their fields, oldest first: the undo+redo buffer and the redo buffer alike.
-// Places from `len` on are not in use.
-pub struct Buffer {
+// The undo+redo buffer: up to 16 entries, by their fields, oldest first. Places from `len` on are not in use.
+pub struct UndoBuffer {
+    pub len: usize,
+    pub threads: [u8; 16],
+    pub words: [u16; 16],
+    pub undos: [u64; 16],
+    pub redos: [u64; 16],
+}
+
+// The redo buffer: up to 32 entries, in the same way. A redo entry has no undo.
+pub struct RedoBuffer {
     pub len: usize,
     pub threads: [u8; 32],
     pub words: [u16; 32],
-    pub undos: [u64; 32],
     pub redos: [u64; 32],
 }
 
@@ -35,4 +46,10 @@ pub struct Lines {
     pub holders: [u8; 64],
     pub dirty: [bool; 64],
     pub states: [u16; 64],
+}
+
+fn least(a: usize, b: usize) -> usize
+    ensures { λ r. ⌜ r ≡ min a b ⌝ }
+{
+    if a < b { a } else { b }
 }

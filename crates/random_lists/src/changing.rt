@@ -8,11 +8,12 @@ use crate::numbers::one_of;
 use crate::numbers::rest;
 use crate::numbers::sum;
 use crate::setup::Plan;
-use machine::State;
-use parts::Buffer;
 use parts::Line;
 use parts::Lines;
+use parts::RedoBuffer;
+use parts::UndoBuffer;
 use parts::with_state;
+use steps::Fields;
 
 // A number below 2^16
 fn short(n: u64) -> u16 {
@@ -25,7 +26,7 @@ fn byte(n: u64) -> u8 {
 }
 
 // The cases 13 to 17
-fn limits(mut state: State, case: u64, a: u64) -> State {
+fn limits(mut state: Fields, case: u64, a: u64) -> Fields {
     let w = state.words as u64;
     let l = state.slots as u64;
     let head = state.head;
@@ -60,7 +61,7 @@ fn line(mut line: Line, case: u64, j: u64, b: u64) -> Line {
 }
 
 // The cases 18 to 21, of word w
-fn lines(mut state: State, case: u64, w: u64, b: u64) -> State {
+fn lines(mut state: Fields, case: u64, w: u64, b: u64) -> Fields {
     if (case < 18) | (case > 21) {
         return state;
     }
@@ -73,7 +74,7 @@ fn lines(mut state: State, case: u64, w: u64, b: u64) -> State {
 }
 
 // The cases 22 and 23
-fn threads(mut state: State, case: u64, threads: u64, b: u64) -> State {
+fn threads(mut state: Fields, case: u64, threads: u64, b: u64) -> Fields {
     let t = either(case == 22, rest(b, threads), b);
     if (case == 22) | (case == 23) {
         state.opened[(t % 8) as usize] = case == 23;
@@ -81,27 +82,72 @@ fn threads(mut state: State, case: u64, threads: u64, b: u64) -> State {
     state
 }
 
-// The cases 25 and 28: the word of entry e
-fn with_word(mut buffer: Buffer, e: u64, b: u64, w: u64) -> Buffer {
-    let next = rest(sum(e, 1), buffer.len as u64);
-    let g = buffer.entry(next as usize);
-    buffer.words[(e % 32) as usize] = short(one_of(b, w, 65535, rest(b / 4, w), g.word as u64));
-    buffer
+// The threads and the words of a buffer's entries
+struct Keys {
+    len: usize,
+    threads: [u8; 32],
+    words: [u16; 32],
 }
 
-// The thread of entry e and, where `all`, of each entry "whose word is in line l"
-fn with_thread(mut buffer: Buffer, e: u64, all: bool, h: u8) -> Buffer {
-    let entry = buffer.entry(e as usize);
-    let line = entry.word / 8;
+// Those of the undo+redo buffer
+fn undo_keys(buffer: UndoBuffer) -> Keys {
+    let mut threads = [0; 32];
+    let mut words = [0; 32];
     let mut i = 0;
-    while i < 32 {
-        let same = (i < buffer.len) & (buffer.words[i] / 8 == line);
-        if (i as u64 == e) | (all & same) {
-            buffer.threads[i] = h;
-        }
+    while i < 16 {
+        threads[i] = buffer.threads[i];
+        words[i] = buffer.words[i];
+        i += 1;
+    }
+    Keys {
+        len: buffer.len,
+        threads,
+        words,
+    }
+}
+
+// The undo+redo buffer with others
+fn with_undo_keys(mut buffer: UndoBuffer, keys: Keys) -> UndoBuffer {
+    let mut i = 0;
+    while i < 16 {
+        buffer.threads[i] = keys.threads[i];
+        buffer.words[i] = keys.words[i];
         i += 1;
     }
     buffer
+}
+
+// Those of the redo buffer
+fn redo_keys(buffer: RedoBuffer) -> Keys {
+    let threads = buffer.threads;
+    let words = buffer.words;
+    Keys {
+        len: buffer.len,
+        threads,
+        words,
+    }
+}
+
+// The cases 25 and 28: the word of entry e
+fn with_word(mut keys: Keys, e: u64, b: u64, w: u64) -> Keys {
+    let next = rest(sum(e, 1), keys.len as u64);
+    let g = keys.words[(next % 32) as usize];
+    keys.words[(e % 32) as usize] = short(one_of(b, w, 65535, rest(b / 4, w), g as u64));
+    keys
+}
+
+// The thread of entry e and, where `all`, of each entry "whose word is in line l"
+fn with_thread(mut keys: Keys, e: u64, all: bool, h: u8) -> Keys {
+    let line = keys.words[(e % 32) as usize] / 8;
+    let mut i = 0;
+    while i < 32 {
+        let same = (i < keys.len) & (keys.words[i] / 8 == line);
+        if (i as u64 == e) | (all & same) {
+            keys.threads[i] = h;
+        }
+        i += 1;
+    }
+    keys
 }
 
 // The thread that the cases 24, 26, 27 and 29 give
@@ -111,55 +157,61 @@ fn thread_of(case: u64, b: u64) -> u8 {
 }
 
 // The cases 24 to 26, and 27 to 29, of a buffer that is not empty
-fn entries(buffer: Buffer, t: Trouble, w: u64) -> Buffer {
-    let e = rest(t.a, buffer.len as u64);
+fn entries(keys: Keys, t: Trouble, w: u64) -> Keys {
+    let e = rest(t.a, keys.len as u64);
     if t.case % 3 == 1 {
-        with_word(buffer, e, t.b, w)
+        with_word(keys, e, t.b, w)
     } else {
-        with_thread(buffer, e, t.case % 3 == 2, thread_of(t.case, t.b))
+        with_thread(keys, e, t.case % 3 == 2, thread_of(t.case, t.b))
     }
 }
 
 // "the holder of line l", in the cases 26 and 29
-fn holder(mut lines: Lines, buffer: Buffer, t: Trouble) -> Lines {
-    let e = rest(t.a, buffer.len as u64);
-    let entry = buffer.entry(e as usize);
+fn holder(mut lines: Lines, keys: Keys, t: Trouble) -> Lines {
+    let e = rest(t.a, keys.len as u64);
+    let word = keys.words[(e % 32) as usize];
     if t.case % 3 == 2 {
-        lines.holders[(entry.word / 8 % 64) as usize] = thread_of(t.case, t.b);
+        lines.holders[(word / 8 % 64) as usize] = thread_of(t.case, t.b);
     }
     lines
 }
 
 // The cases 24 to 26
-fn undos(mut state: State, t: Trouble, w: u64) -> State {
+fn undos(mut state: Fields, t: Trouble, w: u64) -> Fields {
     let buffer = state.undos;
     let lines = state.lines;
     if (buffer.len == 0) | ((t.case < 24) | (t.case > 26)) {
         return state;
     }
-    let next = entries(buffer, t, w);
-    let held = holder(lines, buffer, t);
+    let keys = undo_keys(buffer);
+    let next = with_undo_keys(buffer, entries(keys, t, w));
+    let held = holder(lines, keys, t);
     state.undos = next;
     state.lines = held;
     state
 }
 
 // The cases 27 to 29
-fn redos(mut state: State, t: Trouble, w: u64) -> State {
-    let buffer = state.redos;
+fn redos(mut state: Fields, t: Trouble, w: u64) -> Fields {
+    let mut buffer = state.redos;
     let lines = state.lines;
     if (buffer.len == 0) | (t.case < 27) {
         return state;
     }
-    let next = entries(buffer, t, w);
-    let held = holder(lines, buffer, t);
-    state.redos = next;
+    let keys = redo_keys(buffer);
+    let next = entries(keys, t, w);
+    let threads = next.threads;
+    let words = next.words;
+    buffer.threads = threads;
+    buffer.words = words;
+    let held = holder(lines, keys, t);
+    state.redos = buffer;
     state.lines = held;
     state
 }
 
 // Each of them changes the state in its own cases.
-pub fn changed(state: State, t: Trouble, plan: Plan) -> State {
+pub fn changed(state: Fields, t: Trouble, plan: Plan) -> Fields {
     if (t.case < 13) | (t.case > 29) {
         return state;
     }

@@ -14,10 +14,10 @@ use crate::setup::Plan;
 use crate::tables::DELETE;
 use crate::tables::RECOVER;
 use crate::tables::SET_DOWN;
-use machine::CUT;
-use machine::DAMAGED;
-use machine::DONE;
-use machine::HEAD;
+use steps::CUT;
+use steps::DAMAGED;
+use steps::DONE;
+use steps::HEAD;
 
 // "case = none"
 const NONE: u64 = 30;

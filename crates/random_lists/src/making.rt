@@ -14,7 +14,7 @@ use crate::tables::STORE;
 use crate::tables::WRITE_HOME;
 use machine::Answer;
 use machine::State;
-use runner::Step;
+use steps::Step;
 
 // The step of kind k, with thread t, word or line p and value v, "as far as the kind takes them"
 fn step_of(run: Run) -> Step {
@@ -70,5 +70,5 @@ pub fn made(
     log: &mut [u64],
 ) -> Answer {
     let step = step_of(run);
-    step.apply(state, home, working, log, run.c)
+    state.step(step, home, working, log, run.c)
 }

@@ -17,8 +17,8 @@ use crate::setup::fill_log;
 use crate::setup::planned;
 use crate::tables::RECOVER;
 use machine::Answer;
-use machine::CUT;
 use machine::State;
+use steps::CUT;
 
 // The digest of the lists so far, their steps, and how often each answer was given, 255 at 16
 pub struct Score {
@@ -73,12 +73,14 @@ impl Game {
     // The changes. Where there are any, the whole log is lent.
     fn disturbed(mut self, log: &mut [u64]) -> Game {
         let plan = self.plan;
-        let state = self.state;
+        let was = self.state;
+        let fields = was.fields;
         let old = self.trouble;
-        let trouble = old.patched(log, plan.l, state.head, state.tail);
-        let next = changed(state, trouble, plan);
+        let trouble = old.patched(log, plan.l, fields.head, fields.tail);
+        let next = changed(fields, trouble, plan);
         self.trouble = trouble;
-        self.state = next;
+        let state = State { fields: next };
+        self.state = state;
         self
     }
 

@@ -1,3 +1,5 @@
--- What a replay comes to, and what its reading and its passes compute.
+-- What a recovery comes to, what its reading and its passes compute, and when a delete is refused.
+pub mod Outcome
 pub mod Replaying
 pub mod Recovering
+pub mod Deleting

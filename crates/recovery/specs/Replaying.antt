@@ -8,7 +8,7 @@ use Rattle.log.specs.Region.{tailOf, recordsOf}
 use Rattle.model.specs.Lists.{any}
 use Rattle.model.specs.Steps.{isBad}
 use Rattle.model.specs.Recovery.{recoveryWrites, records}
-use Rattle.recovery.specs.declared.Replayed.{Replayed}
+use Rattle.recovery.specs.declared.replaying.Replayed.{Replayed}
 
 -- the stores into home; a damaged log stores nothing
 abbrev pub replayStores : ℕ → List ℕ → List Store

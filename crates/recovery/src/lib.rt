@@ -1,16 +1,23 @@
-// What recovery reads in the log and stores into home, and the search for a thread's commit. One forward reading and two passes
-// are made, each linear in the records.
+// Recovery of the three lent buffers, and when the log itself refuses a delete. A recovery makes one forward reading of the log and two
+// passes over it, each linear in the records.
+mod buffers;
 mod commits;
+mod deleting;
 mod passes;
 mod reading;
+mod recovering;
 mod replaying;
 
-pub use commits::has_commit;
-pub use replaying::replay;
+pub use buffers::clear;
+pub use buffers::wrong_lengths;
+pub use deleting::delete_refusal;
+pub use recovering::recover;
 
-// What a replay hands back: whether a record read is bad, the number of the next record, and what is left of the supply.
-pub struct Replayed {
-    pub bad: bool,
-    pub tail: u64,
+// What a recovery hands back: the answer's number, the count left, and, where it is done, the numbers of the state that follows.
+pub struct Recovered {
+    pub answer: u64,
     pub left: u64,
+    pub words: u16,
+    pub slots: u16,
+    pub tail: u64,
 }

@@ -2,9 +2,15 @@
 ghost use mathlib.Core.Path.{_≡_};
 ghost use Rattle.log.specs.Stores.{storedUnder};
 ghost use Rattle.recovery.specs.Replaying.{replayStores, replayed};
-use crate::Replayed;
 use crate::passes::store_all;
 use crate::reading::scan;
+
+// What a replay hands back: whether a record read is bad, the number of the next record, and what is left of the supply.
+pub struct Replayed {
+    pub bad: bool,
+    pub tail: u64,
+    pub left: u64,
+}
 
 // A log with a bad record stores nothing.
 pub fn replay(home: &mut [u64], log: &[u64], words: u16, supply: u64) -> Replayed

@@ -1,4 +1,3 @@
 -- Laws that the proofs of the functions share, and the proof of the claim.
-pub mod Apart
 pub mod StepsMade
 pub mod Claim

@@ -1,4 +1,3 @@
 -- A step and a list of steps of the code as those of the model, and the claim about every list.
-pub mod Steps
 pub mod Running
 pub mod Claim

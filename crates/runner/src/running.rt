@@ -2,14 +2,14 @@
 ghost use Prim.Native.Nat.{_<_};
 ghost use mathlib.Core.Path.{_≡_};
 ghost use lib.ListN.{length};
-ghost use Rattle.machine.specs.View.{memory};
-ghost use Rattle.runner.specs.Steps.{stepOf};
+ghost use Rattle.steps.specs.View.{memory};
+ghost use Rattle.steps.specs.Steps.{stepOf};
 ghost use Rattle.runner.specs.Running.{script, numbered, stepAt, knownKinds, runnable, reported, runOf};
 use crate::Ran;
-use crate::Step;
-use machine::DONE;
-use machine::SIZE;
 use machine::State;
+use steps::DONE;
+use steps::SIZE;
+use steps::Step;
 
 // A step by the number of its kind, from 0 for begin to 8 for recover.
 fn step_of(kind: u64, thread: u64, place: u64, value: u64) -> Step
@@ -110,7 +110,7 @@ pub fn run(
     while i < kinds.len() {
         let step = step_at(kinds, threads, places, values, i);
         let supply = supplies[i];
-        let made = step.apply(state, home, working, log, supply);
+        let made = state.step(step, home, working, log, supply);
         answers[i] = made.answer;
         stores[i] = supply - made.left;
         state = made.state;

@@ -3,7 +3,7 @@ use crate::lists::least;
 use crate::lists::same;
 use crate::lists::within;
 use machine::State;
-use runner::Step;
+use steps::Step;
 
 // The room for steps, and for slots that are shown.
 const STEPS: usize = 32;
@@ -96,8 +96,8 @@ impl Bench {
         let h = within(self.lent[0], &home);
         let w = within(self.lent[1], &working);
         let l = within(self.lent[2], &log);
-        let r = step.apply(
-            state,
+        let r = state.step(
+            step,
             &mut home[..h],
             &mut working[..w],
             &mut log[..l],

@@ -4,7 +4,7 @@ use crate::command::AMPLE;
 use crate::lists::least;
 use crate::lists::within;
 use machine::State;
-use parts::Entry;
+use steps::Fields;
 
 // A number as one of 16 bits, at most 65535.
 fn short(n: u64) -> u16 {
@@ -14,15 +14,6 @@ fn short(n: u64) -> u16 {
 // A number as one of 8 bits, at most 255.
 fn byte(n: u64) -> u8 {
     if n < 255 { n as u8 } else { 255 }
-}
-
-fn entry(thread: u64, word: u64) -> Entry {
-    Entry {
-        thread: byte(thread),
-        word: short(word),
-        undo: 0,
-        redo: 0,
-    }
 }
 
 // What came out of a step.
@@ -47,6 +38,18 @@ fn recovery(words: u64, log: u64) -> Reply {
 }
 
 impl Bench {
+    // The state by its fields, and another state in its place.
+    fn fields(self) -> Fields {
+        let state = self.state;
+        state.fields
+    }
+
+    fn with(mut self, fields: Fields) -> Bench {
+        let state = State { fields };
+        self.state = state;
+        self
+    }
+
     // A recovery of larger buffers in place of a step.
     pub fn recovers(mut self, words: u64, log: u64) -> Bench {
         let r = recovery(words, log);
@@ -71,66 +74,70 @@ impl Bench {
     }
 
     // Another W, L, head and tail of the state.
-    pub fn limits(mut self, numbers: [u64; 4]) -> Bench {
-        let mut state = self.state;
+    pub fn limits(self, numbers: [u64; 4]) -> Bench {
+        let mut state = self.fields();
         state.words = short(numbers[0]);
         state.slots = short(numbers[1]);
         state.head = numbers[2];
         state.tail = numbers[3];
-        self.state = state;
-        self
+        self.with(state)
     }
 
     // Another holder and other word states of a line.
-    pub fn holds(mut self, line: u64, holder: u64, states: u64) -> Bench {
-        let mut state = self.state;
+    pub fn holds(self, line: u64, holder: u64, states: u64) -> Bench {
+        let mut state = self.fields();
         let mut lines = state.lines;
         let i = least(line, 63);
         lines.holders[i] = byte(holder);
         lines.states[i] = short(states);
         state.lines = lines;
-        self.state = state;
-        self
+        self.with(state)
     }
 
-    // One more undo+redo entry.
-    pub fn adds_undo(mut self, thread: u64, word: u64) -> Bench {
-        let mut state = self.state;
-        let undos = state.undos;
-        let more = undos.add(entry(thread, word));
-        state.undos = more;
-        self.state = state;
-        self
+    // One more undo+redo entry; past the last place only the length grows.
+    pub fn adds_undo(self, thread: u64, word: u64) -> Bench {
+        let mut state = self.fields();
+        let mut undos = state.undos;
+        let at = least(undos.len as u64, 32);
+        if at < 16 {
+            undos.threads[at] = byte(thread);
+            undos.words[at] = short(word);
+        }
+        undos.len = at + 1;
+        state.undos = undos;
+        self.with(state)
     }
 
-    // One more redo entry.
-    pub fn adds_redo(mut self, thread: u64, word: u64) -> Bench {
-        let mut state = self.state;
-        let redos = state.redos;
-        let more = redos.add(entry(thread, word));
-        state.redos = more;
-        self.state = state;
-        self
+    // One more redo entry, in the same way.
+    pub fn adds_redo(self, thread: u64, word: u64) -> Bench {
+        let mut state = self.fields();
+        let mut redos = state.redos;
+        let at = least(redos.len as u64, 32);
+        if at < 32 {
+            redos.threads[at] = byte(thread);
+            redos.words[at] = short(word);
+        }
+        redos.len = at + 1;
+        state.redos = redos;
+        self.with(state)
     }
 
     // Another length of the redo buffer.
-    pub fn redos(mut self, len: u64) -> Bench {
-        let mut state = self.state;
+    pub fn redos(self, len: u64) -> Bench {
+        let mut state = self.fields();
         let mut redos = state.redos;
         redos.len = least(len, 33);
         state.redos = redos;
-        self.state = state;
-        self
+        self.with(state)
     }
 
     // A thread has no open transaction.
-    pub fn closes(mut self, thread: u64) -> Bench {
-        let mut state = self.state;
+    pub fn closes(self, thread: u64) -> Bench {
+        let mut state = self.fields();
         let mut opened = state.opened;
         let t = least(thread, 7);
         opened[t] = false;
         state.opened = opened;
-        self.state = state;
-        self
+        self.with(state)
     }
 }

@@ -30,7 +30,7 @@ module _ (c : tie.Else1) where
   within = sym (c .before .within-limits .ensures) ∙ not-false _ (c .if1 .left)
 
   bounded : (c .before .before .args .words ≤ 512)
-      × ((c .before .before .args .words % 8 ≡ 0) × ((c .before .before .args .undos ≤ 32) × (c .before .before .args .redos ≤ 32)))
+      × ((c .before .before .args .words % 8 ≡ 0) × ((c .before .before .args .undos ≤ 16) × (c .before .before .args .redos ≤ 32)))
   bounded =
       let a = c .before .before .args in
       limits-hold (a .words) (a .slots) (a .head) (a .tail) (a .undos) (a .redos) within

@@ -16,24 +16,24 @@ abbrev μ-loop : tie.MeasureT-loop
 
 loop-holds : tie.Need-loop-holds Inv-loop μ-loop
 loop-holds c =
-    let a = c .args in
+    let a = c .before .before .args in
     (omega arith, reached-start (a .count) (a .threads .now) (a .targets .now) (a .wanted) (a .next) (a .words) (a .holders .now) (a .states .now))
 
-element-copy-out-thread : tie.Need-element-copy-out-thread Inv-loop μ-loop
-element-copy-out-thread c = omega arith
+shared-slice-read-thread : tie.Need-shared-slice-read-thread Inv-loop μ-loop
+shared-slice-read-thread c = omega arith
 
 mul-word : tie.Need-mul-word Inv-loop μ-loop
 mul-word c = omega arith
 
-element-copy-out-word : tie.Need-element-copy-out-word Inv-loop μ-loop
-element-copy-out-word c = omega arith
+shared-slice-read-word : tie.Need-shared-slice-read-word Inv-loop μ-loop
+shared-slice-read-word c = omega arith
 
 waits-requires : tie.Need-waits-requires Inv-loop μ-loop
 waits-requires c κs = search needs
 
 returns : tie.Need-returns Inv-loop μ-loop
 returns c =
-    let a = c .before .before .before .before .before .before .before .args in
+    let a = c .before .before .before .before .before .before .before .before .before .args in
     let head = c .before .before .before .before .before .before .loop in
     let called = c .before .waits in
     reached-fails (a .count) (a .threads .now) (a .targets .now) (a .wanted) (a .next) (a .words) (a .holders .now) (a .states .now) (head .i)
@@ -48,7 +48,7 @@ loop-less c = omega arith
 
 loop-again : tie.Need-loop-again Inv-loop μ-loop
 loop-again c =
-    let a = c .before .before .before .before .before .before .before .args in
+    let a = c .before .before .before .before .before .before .before .before .before .args in
     let head = c .before .before .before .before .before .before .loop in
     let called = c .before .waits in (
       omega arith,
@@ -59,7 +59,7 @@ loop-again c =
 
 returns-2 : tie.Need-returns-2 Inv-loop μ-loop
 returns-2 c =
-    let a = c .before .before .args in
+    let a = c .before .before .before .before .args in
     reached-end (a .count) (a .threads .now) (a .targets .now) (a .wanted) (a .next) (a .words) (a .holders .now) (a .states .now)
     (c .before .loop .i) (c .before .loop .states) (c .loop-test .left) (c .before .loop .inv .1)
 
@@ -70,9 +70,9 @@ each-waits-spec =
     Inv-loop
     μ-loop
     loop-holds
-    element-copy-out-thread
+    shared-slice-read-thread
     mul-word
-    element-copy-out-word
+    shared-slice-read-word
     waits-requires
     returns
     add-i

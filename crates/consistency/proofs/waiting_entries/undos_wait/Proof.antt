@@ -16,7 +16,7 @@ all-settled-requires c κs = search needs
 
 returns : tie.Need-returns
 returns c =
-    let a = c .before .before .before .before .args in
+    let a = c .before .before .before .before .before .before .args in
     let each = c .before .before .each-waits in
     undos-walked (a .words) (a .holders .now) (a .t3) (entriesLent (a .count) (a .threads .now) (a .targets .now)) (each .last .1 .1 .0) (each .result)
     (c .all-settled .result) (each .ensures) (c .all-settled .ensures (a .holders .now))

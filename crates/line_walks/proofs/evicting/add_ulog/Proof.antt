@@ -9,20 +9,21 @@ use borrow.Author.Tests.{not-true, not-false, ltb-true}
 use lib.Dec.{ltb}
 use lib.ListN.{length}
 use Rattle.parts.specs.declared.Entry.{Entry}
-use Rattle.parts.specs.Waiting.{waiting}
+use Rattle.parts.specs.Waiting.{redosWaiting}
 use Rattle.parts.specs.Listed.{listed}
-use Rattle.parts.proofs.Waiting.{WholeBuffer}
+use Rattle.parts.proofs.Waiting.{WholeKeys, keys-put}
 use Rattle.model.specs.Lists.{keep}
 use Rattle.model.proofs.Lists.{both-right}
-use Rattle.line_walks.specs.Walks.{isULog, ulogEntry, addedAll}
-use Rattle.line_walks.proofs.ULogEntries.{is-there, whole-added, upToWord, entries-there, entries-none, added-put, added-not}
+use Rattle.line_walks.specs.Walks.{isULog, addedAll}
+use Rattle.line_walks.proofs.ULogEntries.{is-there, upToWord, entries-there, entries-none, added-put, added-not}
 use Rattle.line_walks.proofs.evicting.add_ulog.Statement.{statement}
 use Rattle.line_walks.proofs.evicting.add_ulog.Tie as tie
 
 abbrev Inv-loop : tie.InvT-loop
 Inv-loop line working first buffer j₀ grown j =
     ((first + 8 ≤ length working) × (length working ≤ 512)) ×
-    (WholeBuffer grown × ((j ≤ 8) × (waiting grown ≡ addedAll (upToWord line working first j) (waiting buffer))))
+    (WholeKeys 32 (grown .threads) (grown .words) (grown .redos) ×
+    ((j ≤ 8) × (redosWaiting grown ≡ addedAll (upToWord line working first j) (redosWaiting buffer))))
 
 abbrev μ-loop : tie.MeasureT-loop
 μ-loop line working first buffer j₀ grown j = 8 - j
@@ -43,7 +44,7 @@ unfolding addedAll
 returns c =
     let a = c .before .before .before .args in
     let i = c .before .is-there in
-    ap (λ (xs : List Entry). addedAll xs (waiting (a .buffer)))
+    ap (λ (xs : List Entry). addedAll xs (redosWaiting (a .buffer)))
     (sym (entries-none (a .line) (a .working .now) (a .first) (sym (i .ensures) ∙ not-true (i .result) (c .if1 .taken))))
 
 loop-holds : tie.Need-loop-holds Inv-loop μ-loop
@@ -73,22 +74,16 @@ element-write-grown-2 : tie.Need-element-write-grown-2 Inv-loop μ-loop
 element-write-grown-2 c = let h = room c in omega arith
 
 mul-grown-2 : tie.Need-mul-grown-2 Inv-loop μ-loop
-mul-grown-2 c = let h = room c in omega arith
-
-element-write-grown-3 : tie.Need-element-write-grown-3 Inv-loop μ-loop
-element-write-grown-3 c = let h = room c in omega arith
-
-mul-grown-3 : tie.Need-mul-grown-3 Inv-loop μ-loop
-mul-grown-3 c = omega arith
+mul-grown-2 c = omega arith
 
 shared-slice-read-grown : tie.Need-shared-slice-read-grown Inv-loop μ-loop
 shared-slice-read-grown c = omega arith
 
-mul-grown-4 : tie.Need-mul-grown-4 Inv-loop μ-loop
-mul-grown-4 c = let h = room (c .before) in omega arith
+mul-grown-3 : tie.Need-mul-grown-3 Inv-loop μ-loop
+mul-grown-3 c = let h = room (c .before) in omega arith
 
-element-write-grown-4 : tie.Need-element-write-grown-4 Inv-loop μ-loop
-element-write-grown-4 c = let h = room (c .before) in omega arith
+element-write-grown-3 : tie.Need-element-write-grown-3 Inv-loop μ-loop
+element-write-grown-3 c = let h = room (c .before) in omega arith
 
 add-grown : tie.Need-add-grown Inv-loop μ-loop
 add-grown c = let h = room (c .before) in omega arith
@@ -106,16 +101,15 @@ loop-again c =
     let test = sym (c .before .adds .ensures) in
     let b = l .grown in
     let w = l .inv .1 .0 in
-    let e = ulogEntry (a .line) (a .working .now) (a .first) (l .j) in
     let before = l .inv .1 .1 .1 in
     ⊎-elim
     (λ u. (
       l .inv .0,
       (
-        rw (u .2) (whole-added b (b .len) e (b .len + 1) w),
+        rw (u .2) (keys-put 32 (b .len) _ _ _ (b .threads) (b .words) (b .redos) w),
         (
           omega arith,
-          ap waiting (u .2) ∙ added-put (a .line) (a .working .now) (a .first) b (waiting (a .buffer)) (l .j) before w (test ∙ u .0 .taken),
+          ap redosWaiting (u .2) ∙ added-put (a .line) (a .working .now) (a .first) b (redosWaiting (a .buffer)) (l .j) before w (test ∙ u .0 .taken),
         ),
       ),
     ))
@@ -125,7 +119,7 @@ loop-again c =
         rw (u .1) w,
         (
           omega arith,
-          ap waiting (u .1) ∙ added-not (a .line) (a .working .now) (a .first) b (waiting (a .buffer)) (l .j) before (test ∙ u .0 .left),
+          ap redosWaiting (u .1) ∙ added-not (a .line) (a .working .now) (a .first) b (redosWaiting (a .buffer)) (l .j) before (test ∙ u .0 .left),
         ),
       ),
     ))
@@ -138,7 +132,7 @@ returns-2 c =
     let e : l .j ≡ 8 = omega arith in
     let there = l .inv .0 in
     rw e at (l .inv .1 .1 .1)
-    ∙ ap (λ (xs : List Entry). addedAll xs (waiting (a .buffer))) (sym (entries-there (a .line) (a .working .now) (a .first) (there .0) (there .1)))
+    ∙ ap (λ (xs : List Entry). addedAll xs (redosWaiting (a .buffer))) (sym (entries-there (a .line) (a .working .now) (a .first) (there .0) (there .1)))
 
 pub add-ulog-spec : {M : Type 1} → statement M
 add-ulog-spec =
@@ -156,11 +150,9 @@ add-ulog-spec =
     mul-grown
     element-write-grown-2
     mul-grown-2
-    element-write-grown-3
-    mul-grown-3
     shared-slice-read-grown
-    mul-grown-4
-    element-write-grown-4
+    mul-grown-3
+    element-write-grown-3
     add-grown
     add-j
     loop-less

@@ -6,9 +6,10 @@ use native.Mathlib.Omega.{arith}
 use borrow.Author.Needs.{needs}
 use lib.ListN.{length, take, length-set}
 use Rattle.parts.specs.declared.Entry.{Entry}
-use Rattle.parts.specs.Waiting.{entryAt, waiting}
+use Rattle.parts.specs.Waiting.{undosWaiting}
 use Rattle.parts.specs.Lines.{firstLines}
 use Rattle.parts.proofs.FirstLines.{WholeLines}
+use Rattle.parts.proofs.Waiting.{undoAt}
 use Rattle.model.specs.Machine.{allLogged}
 use Rattle.line_walks.proofs.WordStates.{withStates, first-marked, logged-more, oldest-least, oldest-over}
 use Rattle.line_walks.proofs.marking.all_logged.Statement.{statement}
@@ -16,7 +17,7 @@ use Rattle.line_walks.proofs.marking.all_logged.Tie as tie
 
 abbrev Inv-loop : tie.InvT-loop
 Inv-loop count entries end lines i₀ marked i =
-    WholeLines marked × ((i ≤ end) × ((n : ℕ) → n ≤ 64 → firstLines n marked ≡ allLogged (take i (waiting entries)) (firstLines n lines)))
+    WholeLines marked × ((i ≤ end) × ((n : ℕ) → n ≤ 64 → firstLines n marked ≡ allLogged (take i (undosWaiting entries)) (firstLines n lines)))
 
 abbrev μ-loop : tie.MeasureT-loop
 μ-loop count entries end lines i₀ marked i = end - i
@@ -62,7 +63,7 @@ loop-again c =
             logged-more (a .t2) (l .i) (firstLines n (a .lines)) (firstLines n (l .marked)) (firstLines n (withStates after (l .marked))) (omega arith)
             (l .inv .1 .1 n h)
             (ap (λ (ss : List ℕ). firstLines n (withStates ss (l .marked))) (c .mark .ensures (whole .states))
-            ∙ first-marked n (l .marked) (entryAt (a .t2) (l .i) .word) 2 whole h),
+            ∙ first-marked n (l .marked) (undoAt (a .t2) (l .i) .word) 2 whole h),
       ),
     )
 
@@ -72,7 +73,7 @@ returns-2 c n h =
     let a = c .before .before .before .before .args in
     let e : l .i ≡ min (a .count) (a .t2 .len) = omega arith in
     l .inv .1 .1 n h
-    ∙ ap (λ (k : ℕ). allLogged (take k (waiting (a .t2))) (firstLines n (a .lines))) e
+    ∙ ap (λ (k : ℕ). allLogged (take k (undosWaiting (a .t2))) (firstLines n (a .lines))) e
     ∙ ap (λ (es : List Entry). allLogged es (firstLines n (a .lines))) (oldest-least (a .count) (a .t2) (omega arith))
 
 pub all-logged-spec : {M : Type 1} → statement M

@@ -7,25 +7,26 @@ use borrow.Author.Needs.{needs}
 use lib.ListN.{length}
 use Rattle.log.specs.Region.{numbers}
 use Rattle.log.proofs.Stored.{under-none}
-use Rattle.parts.specs.declared.Buffer.{Buffer}
+use Rattle.parts.specs.declared.UndoBuffer.{UndoBuffer}
+use Rattle.parts.specs.declared.RedoBuffer.{RedoBuffer}
 use Rattle.parts.specs.declared.Lines.{Lines}
 use Rattle.logging.specs.Newest.{linesOf}
-use Rattle.logging.specs.Records.{bufferOf}
+use Rattle.logging.specs.Records.{undoBufferOf, redoBufferOf}
 use Rattle.logging.proofs.Guards.{Fitting, commit-none, commit-known}
 use Rattle.logging.proofs.WholeCommit.{commit-appended}
 use Rattle.logging.proofs.commit.append_commit.Statement.{statement}
 use Rattle.logging.proofs.commit.append_commit.Tie as tie
 
 -- what is lent
-abbrev undo-buffer : tie.Start → Buffer
+abbrev undo-buffer : tie.Start → UndoBuffer
 undo-buffer c =
     let a = c .args in
-    bufferOf (a .undos) (a .undo-threads .now) (a .undo-words .now) (a .undo-undos .now) (a .undo-redos .now)
+    undoBufferOf (a .undos) (a .undo-threads .now) (a .undo-words .now) (a .undo-undos .now) (a .undo-redos .now)
 
-abbrev redo-buffer : tie.Start → Buffer
+abbrev redo-buffer : tie.Start → RedoBuffer
 redo-buffer c =
     let a = c .args in
-    bufferOf (a .redos) (a .redo-threads .now) (a .redo-words .now) (a .redo-undos .now) (a .redo-redos .now)
+    redoBufferOf (a .redos) (a .redo-threads .now) (a .redo-words .now) (a .redo-redos .now)
 
 abbrev lines : tie.Start → List Bool → Lines
 lines c dirty = linesOf (c .args .holders .now) dirty (c .args .states .now)
@@ -40,10 +41,10 @@ returns c dirty =
 -- the sizes where something is appended
 known : (c : tie.Else1)
     → let s = c .before .before .before in
-    (s .args .number < numbers) × Fitting (undo-buffer s) (redo-buffer s) (length (s .args .working .now))
+    (s .args .number < numbers) × Fitting (s .args .undos) (s .args .redos) (length (s .args .working .now))
 known c =
     let s = c .before .before .before in
-    commit-known (s .args .number) (undo-buffer s) (redo-buffer s) (length (s .args .working .now)) (c .if1 .left)
+    commit-known (s .args .number) (s .args .undos) (s .args .redos) (length (s .args .working .now)) (c .if1 .left)
 
 add-second : tie.Need-add-second
 add-second c = let k = known c in omega arith
@@ -51,11 +52,11 @@ add-second c = let k = known c in omega arith
 add-third : tie.Need-add-third
 add-third c = let k = known c in omega arith
 
-append-entries-requires : tie.Need-append-entries-requires
-append-entries-requires c κs = search needs
+append-undos-requires : tie.Need-append-undos-requires
+append-undos-requires c κs = search needs
 
-append-entries-requires-2 : tie.Need-append-entries-requires-2
-append-entries-requires-2 c κs = search needs
+append-redos-requires : tie.Need-append-redos-requires
+append-redos-requires c κs = search needs
 
 append-newest-requires : tie.Need-append-newest-requires
 append-newest-requires c κs = let k = known (c .before .before .before .before .before .before .before .before .before) in omega arith
@@ -76,9 +77,9 @@ returns-2 c dirty =
     let s = passed .before .before .before in
     let a = s .args in
     commit-appended (undo-buffer s) (redo-buffer s) (lines s dirty) (a .working .now) (a .thread) (a .supply) (a .number) (a .log .now)
-    (first .append-entries .last .0) (second .append-entries2 .last .0) (newest .append-newest .last .0) (fourth .last .0)
-    (first .append-entries .result) (second .append-entries2 .result) (newest .append-newest .result .number) (newest .append-newest .result .left)
-    (fourth .result) (known passed .1) (first .append-entries .ensures) (second .append-entries2 .ensures) (newest .append-newest .ensures dirty)
+    (first .append-undos .last .0) (second .append-redos .last .0) (newest .append-newest .last .0) (fourth .last .0)
+    (first .append-undos .result) (second .append-redos .result) (newest .append-newest .result .number) (newest .append-newest .result .left)
+    (fourth .result) (known passed .1) (first .append-undos .ensures) (second .append-redos .ensures) (newest .append-newest .ensures dirty)
     (fourth .ensures)
 
 pub append-commit-spec : {M : Type 1} → statement M
@@ -88,8 +89,8 @@ append-commit-spec =
     returns
     add-second
     add-third
-    append-entries-requires
-    append-entries-requires-2
+    append-undos-requires
+    append-redos-requires
     append-newest-requires
     append-requires
     same-length

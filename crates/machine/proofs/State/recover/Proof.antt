@@ -1,20 +1,13 @@
--- `State::recover` meets its contract: it is refused before or after it reads the log, cut, or done.
-use mathlib.Core.Path.{_≡_, refl, sym, _∙_}
-use native.Mathlib.Omega.{arith}
-use Rattle.model.specs.Machine.{Memory}
-use Rattle.model.specs.Refusals.{numberOf}
-use Rattle.machine.specs.View.{memory}
-use Rattle.machine.specs.Recovering.{unreadableRows}
-use Rattle.machine.proofs.RecoverStep.{fits-unread, refused-unread, recover-refused, recover-damaged, recover-cut, recover-done}
+-- `State::recover` meets its contract: that of the step, with the state around its fields.
 use borrow.Author.Needs.{needs}
 use Rattle.machine.proofs.State.recover.Statement.{statement}
 use Rattle.machine.proofs.State.recover.Tie as tie
 
-unreadable-requires : tie.Need-unreadable-requires
-unreadable-requires c κs = search needs
+recover-requires : tie.Need-recover-requires
+recover-requires c κs = search needs
 
-lost-requires : tie.Need-lost-requires
-lost-requires c κs = search needs
+answer-requires : tie.Need-answer-requires
+answer-requires c κs = search needs
 
 same-length : tie.Need-same-length
 same-length c = search needs
@@ -26,169 +19,7 @@ same-length-3 : tie.Need-same-length-3
 same-length-3 c = search needs
 
 returns : tie.Need-returns
-returns c =
-    let a = c .before .before .before .before .before .before .before .before .before .args in
-    let m = memory (a .home .now) (a .working .now) (a .log .now) in
-    recover-refused m (a .supply) _ (c .before .before .unreadable .result)
-    (refused-unread m _ (c .before .before .unreadable .ensures) (c .before .if1 .taken))
-    (c .before .if1 .taken)
-    refl
-    refl
-    (c .lost .ensures)
-    refl
-    refl
-    refl
-
--- the buffers at the start, where the log can be read
-abbrev before : tie.Else1 → Memory
-before c =
-    let a = c .before .before .before .before .before .before .before .before .args in
-    memory (a .home .now) (a .working .now) (a .log .now)
-
-zero : (c : tie.Else1) → 0 ≡ numberOf (unreadableRows (before c))
-zero c = sym (c .if1 .left) ∙ c .before .unreadable .ensures
-
-cast-words : tie.Need-cast-words
-cast-words c =
-    let r = fits-unread (before c) (zero c) in
-    let w = r .width in
-    omega arith
-
-slots-requires : tie.Need-slots-requires
-slots-requires c κs = search needs
-
-cast-slots : tie.Need-cast-slots
-cast-slots c =
-    let read = c .before .before in
-    let r = fits-unread (before read) (zero read) in
-    let e = c .slots .ensures in
-    omega arith
-
-replay-requires : tie.Need-replay-requires
-replay-requires c κs = search needs
-
-lost-requires-2 : tie.Need-lost-requires-2
-lost-requires-2 c κs = search needs
-
-same-length-4 : tie.Need-same-length-4
-same-length-4 c = search needs
-
-same-length-5 : tie.Need-same-length-5
-same-length-5 c = search needs
-
-same-length-6 : tie.Need-same-length-6
-same-length-6 c = search needs
-
-returns-2 : tie.Need-returns-2
-returns-2 c =
-    let after = c .before .before .before .before in
-    let read = after .before .before .before .before .before in
-    let a = read .before .before .before .before .before .before .before .before .args in
-    recover-damaged (before read) (a .supply) _ (zero read) (after .replay .result) (after .replay .ensures .0) (after .replay .ensures .1)
-    (c .before .if2 .taken)
-    refl
-    refl
-    (c .lost2 .ensures)
-    refl
-    refl
-
-set-head-requires : tie.Need-set-head-requires
-set-head-requires c κs = search needs
-
-cut-requires : tie.Need-cut-requires
-cut-requires c κs = search needs
-
-same-length-7 : tie.Need-same-length-7
-same-length-7 c = search needs
-
-same-length-8 : tie.Need-same-length-8
-same-length-8 c = search needs
-
-same-length-9 : tie.Need-same-length-9
-same-length-9 c = search needs
-
-returns-3 : tie.Need-returns-3
-returns-3 c =
-    let headed = c .before .before .before .before .before .before .before .before in
-    let after = headed .before .before .before .before .before in
-    let read = after .before .before .before .before .before in
-    let a = read .before .before .before .before .before .before .before .before .args in
-    let out = c .before .before .cut .ensures in
-    recover-cut (before read) (a .supply) _ (zero read) (after .replay .result) (after .replay .ensures .0) (after .replay .ensures .1)
-    (headed .before .before .if2 .left)
-    (headed .set-head .ensures .1)
-    (c .before .before .before .before .if3 .taken)
-    (out .0 .0)
-    (out .0 .1 .0)
-    (out .0 .1 .1)
-    (out .1)
-
-copy-requires : tie.Need-copy-requires
-copy-requires c κs =
-    let after = c .before .before .before .before .before .before .before .before .before .before .before in
-    let read = after .before .before .before .before .before in
-    fits-unread (before read) (zero read) .working ∙ sym (after .replay .kept .0)
-
-fresh-state-requires : tie.Need-fresh-state-requires
-fresh-state-requires c κs =
-    let after = c .before .before .before .before .before .before .before .before .before .before .before .before .before .before in
-    let read = after .before .before .before .before .before in
-    fits-unread (before read) (zero read) .width .most
-
-same-length-10 : tie.Need-same-length-10
-same-length-10 c = search needs
-
-same-length-11 : tie.Need-same-length-11
-same-length-11 c = search needs
-
-same-length-12 : tie.Need-same-length-12
-same-length-12 c = search needs
-
-returns-4 : tie.Need-returns-4
-returns-4 c =
-    let headed = c .before .before .before .before .before .before .before .before .before .before in
-    let after = headed .before .before .before .before .before in
-    let read = after .before .before .before .before .before in
-    let a = read .before .before .before .before .before .before .before .before .args in
-    recover-done (before read) (a .supply) _ (zero read) (after .replay .result) (after .replay .ensures .0) (after .replay .ensures .1)
-    (headed .before .before .if2 .left)
-    (headed .set-head .ensures .1)
-    (after .before .before .before .slots .result)
-    (after .before .before .before .slots .ensures)
-    (c .before .before .before .before .before .before .if3 .left)
-    refl
-    (headed .set-head .ensures .0)
-    (c .fresh-state .ensures)
-    (c .before .before .before .copy .ensures)
+returns c = rw (c .answer .ensures) (c .before .before .before .before .before .before .before .recover .ensures)
 
 pub recover-spec : {M : Type 1} → statement M
-recover-spec =
-    tie.close
-    (tie.spec
-    unreadable-requires
-    lost-requires
-    same-length
-    same-length-2
-    same-length-3
-    returns
-    cast-words
-    slots-requires
-    cast-slots
-    replay-requires
-    lost-requires-2
-    same-length-4
-    same-length-5
-    same-length-6
-    returns-2
-    set-head-requires
-    cut-requires
-    same-length-7
-    same-length-8
-    same-length-9
-    returns-3
-    copy-requires
-    fresh-state-requires
-    same-length-10
-    same-length-11
-    same-length-12
-    returns-4)
+recover-spec = tie.close (tie.spec recover-requires answer-requires same-length same-length-2 same-length-3 returns)

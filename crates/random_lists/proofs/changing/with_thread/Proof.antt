@@ -5,13 +5,16 @@ use Rattle.random_lists.proofs.changing.with_thread.Statement.{statemen
 use Rattle.random_lists.proofs.changing.with_thread.Tie as tie
 
 abbrev Inv-loop : tie.InvT-loop
-Inv-loop e all h buffer₀ line i₀ buffer i = 0 ≤ i
+Inv-loop e all h keys₀ line i₀ keys i = 0 ≤ i
 
 abbrev μ-loop : tie.MeasureT-loop
-μ-loop e all h buffer₀ line i₀ buffer i = 32 - i
+μ-loop e all h keys₀ line i₀ keys i = 32 - i
 
-entry-requires : tie.Need-entry-requires Inv-loop μ-loop
-entry-requires c κs = search needs
+mul-line : tie.Need-mul-line Inv-loop μ-loop
+mul-line c = search needs
+
+element-copy-out-line : tie.Need-element-copy-out-line Inv-loop μ-loop
+element-copy-out-line c = search needs
 
 loop-holds : tie.Need-loop-holds Inv-loop μ-loop
 loop-holds c = search needs
@@ -22,8 +25,8 @@ mul-same c = search needs
 element-copy-out-same : tie.Need-element-copy-out-same Inv-loop μ-loop
 element-copy-out-same c = search needs
 
-element-write-buffer : tie.Need-element-write-buffer Inv-loop μ-loop
-element-write-buffer c = search needs
+element-write-keys : tie.Need-element-write-keys Inv-loop μ-loop
+element-write-keys c = search needs
 
 add-i : tie.Need-add-i Inv-loop μ-loop
 add-i c = search needs
@@ -43,11 +46,12 @@ with-thread-spec =
     (tie.spec
     Inv-loop
     μ-loop
-    entry-requires
+    mul-line
+    element-copy-out-line
     loop-holds
     mul-same
     element-copy-out-same
-    element-write-buffer
+    element-write-keys
     add-i
     loop-less
     loop-again

@@ -10,7 +10,8 @@ use lib.ListN.{length, length-set}
 use Rattle.model.specs.Plan.{Outcome}
 use Rattle.model.specs.Step.{stepped}
 use Rattle.model.specs.Run.{Timed}
-use Rattle.machine.specs.View.{view, memory, shown}
+use Rattle.machine.specs.View.{view, shown}
+use Rattle.steps.specs.View.{memory}
 use Rattle.runner.specs.Running.{Script, script, timedAt, runnable, atFirst, reported}
 use Rattle.runner.proofs.StepsMade.{left-of, Alike, alike, Upto, upto-none, upto-more, upto-all, may-run, run-made, run-refused}
 use Rattle.runner.proofs.running.run.Statement.{statement}
@@ -115,8 +116,8 @@ mul-supply c = offset (c .before .loop-test .taken) (c .before .before .loop .in
 shared-slice-read-supply : tie.Need-shared-slice-read-supply Inv-loop μ-loop
 shared-slice-read-supply c = below (c .before .before .before .loop .inv .8 .supplies) (c .before .before .loop-test .taken)
 
-apply-requires : tie.Need-apply-requires Inv-loop μ-loop
-apply-requires c κs = tt
+step-requires : tie.Need-step-requires Inv-loop μ-loop
+step-requires c κs = tt
 
 mul-answers : tie.Need-mul-answers Inv-loop μ-loop
 mul-answers c =
@@ -134,7 +135,7 @@ sub-stores : tie.Need-sub-stores Inv-loop μ-loop
 sub-stores c =
     let d = c .before .before .before .before .before .before .before in
     let l = d .before .before .before .before .before .before .before .loop in
-    let r = d .apply in
+    let r = d .step in
     left-of (shown (r .result) (r .last .1 .1 .0) (r .last .1 .1 .1 .0) (r .last .1 .1 .1 .1 .0)) _ _ _
     (memory (l .home) (l .working) (l .log))
     (r .ensures)
@@ -171,7 +172,7 @@ loop-again c =
     let l = turn .before .loop in
     let u = l .inv in
     let h = turn .loop-test .taken in
-    let r = d .apply in
+    let r = d .step in
     let f : ℕ → Timed = timedAt (script (a .kinds .now) (a .threads .now) (a .places .now) (a .values .now) (a .supplies .now)) in
     let out : Outcome = shown (r .result) (r .last .1 .1 .0) (r .last .1 .1 .1 .0) (r .last .1 .1 .1 .1 .0) in
     let made : out ≡ stepped (f (l .i) .step) (f (l .i) .supply) (view (l .state)) (memory (l .home) (l .working) (l .log)) =
@@ -233,7 +234,7 @@ run-spec =
     step-at-requires
     mul-supply
     shared-slice-read-supply
-    apply-requires
+    step-requires
     mul-answers
     slice-write-answers
     sub-stores

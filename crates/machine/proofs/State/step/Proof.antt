@@ -1,0 +1,25 @@
+-- `State::step` meets its contract: that of the step, with the state around its fields.
+use borrow.Author.Needs.{needs}
+use Rattle.machine.proofs.State.step.Statement.{statement}
+use Rattle.machine.proofs.State.step.Tie as tie
+
+make-requires : tie.Need-make-requires
+make-requires c κs = search needs
+
+answer-requires : tie.Need-answer-requires
+answer-requires c κs = search needs
+
+same-length : tie.Need-same-length
+same-length c = search needs
+
+same-length-2 : tie.Need-same-length-2
+same-length-2 c = search needs
+
+same-length-3 : tie.Need-same-length-3
+same-length-3 c = search needs
+
+returns : tie.Need-returns
+returns c = rw (c .answer .ensures) (c .before .before .before .before .before .before .before .make .ensures)
+
+pub step-spec : {M : Type 1} → statement M
+step-spec = tie.close (tie.spec make-requires answer-requires same-length same-length-2 same-length-3 returns)

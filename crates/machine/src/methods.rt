@@ -1,0 +1,178 @@
+// The methods of the state.
+ghost use mathlib.Core.Path.{_≡_};
+ghost use mathlib.Core.List.{[]};
+ghost use Rattle.model.specs.Machine.{lostMachine};
+ghost use Rattle.model.specs.Step.{begin, store, logUndo, logRedo, evict, writeBack, commit, deleteOldest, recover, stepped};
+ghost use Rattle.steps.specs.Steps.{stepOf};
+ghost use Rattle.steps.specs.View.{memory};
+ghost use Rattle.machine.specs.View.{view, shown};
+use crate::Answer;
+use crate::State;
+use steps::Made;
+use steps::Step;
+
+// What a step made, with the state around its fields.
+fn answer(made: Made) -> Answer
+    ensures { λ (r : Answer). ⌜ r ≡ record { answer = made .answer; left = made .left; state = record { fields = made .state } } ⌝ }
+{
+    let fields = made.state;
+    Answer {
+        answer: made.answer,
+        left: made.left,
+        state: State { fields },
+    }
+}
+
+impl State {
+    // "dark": the state that was lost
+    pub fn lost() -> State
+        ensures { λ (r : State). ⌜ view r ≡ lostMachine ⌝ }
+    {
+        State {
+            fields: steps::lost(),
+        }
+    }
+
+    // Makes a step given as a value.
+    pub fn step(
+        self,
+        step: Step,
+        home: &mut [u64],
+        working: &mut [u64],
+        log: &mut [u64],
+        supply: u64,
+    ) -> Answer
+        ensures { λ (r : Answer). ⌜ shown r (now (home .exit)) (now (working .exit)) (now (log .exit))
+            ≡ stepped (stepOf step) supply (view self) (memory (now (home .entry)) (now (working .entry)) (now (log .entry))) ⌝ }
+    {
+        let fields = self.fields;
+        answer(steps::make(fields, step, home, working, log, supply))
+    }
+
+    // Lent no buffers and no supply: the count left is 0.
+    pub fn begin(self, thread: u64) -> Answer
+        ensures { λ (r : Answer). ⌜ shown r [] [] [] ≡ stepped (begin thread) 0 (view self) (memory [] [] []) ⌝ }
+    {
+        let fields = self.fields;
+        answer(steps::begin(fields, thread))
+    }
+
+    // The value becomes the working one, under a claim of the line.
+    pub fn store(
+        self,
+        home: &mut [u64],
+        working: &mut [u64],
+        log: &mut [u64],
+        supply: u64,
+        thread: u64,
+        word: u64,
+        value: u64,
+    ) -> Answer
+        ensures { λ (r : Answer). ⌜ shown r (now (home .exit)) (now (working .exit)) (now (log .exit))
+            ≡ stepped (store thread word value) supply (view self) (memory (now (home .entry)) (now (working .entry)) (now (log .entry))) ⌝ }
+    {
+        self.step(
+            Step::Store {
+                thread,
+                word,
+                value,
+            },
+            home,
+            working,
+            log,
+            supply,
+        )
+    }
+
+    pub fn log_undo(
+        self,
+        home: &mut [u64],
+        working: &mut [u64],
+        log: &mut [u64],
+        supply: u64,
+    ) -> Answer
+        ensures { λ (r : Answer). ⌜ shown r (now (home .exit)) (now (working .exit)) (now (log .exit))
+            ≡ stepped logUndo supply (view self) (memory (now (home .entry)) (now (working .entry)) (now (log .entry))) ⌝ }
+    {
+        self.step(Step::LogUndo, home, working, log, supply)
+    }
+
+    pub fn log_redo(
+        self,
+        home: &mut [u64],
+        working: &mut [u64],
+        log: &mut [u64],
+        supply: u64,
+    ) -> Answer
+        ensures { λ (r : Answer). ⌜ shown r (now (home .exit)) (now (working .exit)) (now (log .exit))
+            ≡ stepped logRedo supply (view self) (memory (now (home .entry)) (now (working .entry)) (now (log .entry))) ⌝ }
+    {
+        self.step(Step::LogRedo, home, working, log, supply)
+    }
+
+    // "Set down a line"
+    pub fn evict(
+        self,
+        home: &mut [u64],
+        working: &mut [u64],
+        log: &mut [u64],
+        supply: u64,
+        line: u64,
+    ) -> Answer
+        ensures { λ (r : Answer). ⌜ shown r (now (home .exit)) (now (working .exit)) (now (log .exit))
+            ≡ stepped (evict line) supply (view self) (memory (now (home .entry)) (now (working .entry)) (now (log .entry))) ⌝ }
+    {
+        self.step(Step::Evict { line }, home, working, log, supply)
+    }
+
+    // "Write home a line"
+    pub fn write_back(
+        self,
+        home: &mut [u64],
+        working: &mut [u64],
+        log: &mut [u64],
+        supply: u64,
+        line: u64,
+    ) -> Answer
+        ensures { λ (r : Answer). ⌜ shown r (now (home .exit)) (now (working .exit)) (now (log .exit))
+            ≡ stepped (writeBack line) supply (view self) (memory (now (home .entry)) (now (working .entry)) (now (log .entry))) ⌝ }
+    {
+        self.step(Step::WriteBack { line }, home, working, log, supply)
+    }
+
+    pub fn commit(
+        self,
+        home: &mut [u64],
+        working: &mut [u64],
+        log: &mut [u64],
+        supply: u64,
+        thread: u64,
+    ) -> Answer
+        ensures { λ (r : Answer). ⌜ shown r (now (home .exit)) (now (working .exit)) (now (log .exit))
+            ≡ stepped (commit thread) supply (view self) (memory (now (home .entry)) (now (working .entry)) (now (log .entry))) ⌝ }
+    {
+        self.step(Step::Commit { thread }, home, working, log, supply)
+    }
+
+    // "Delete"
+    pub fn delete_oldest(
+        self,
+        home: &mut [u64],
+        working: &mut [u64],
+        log: &mut [u64],
+        supply: u64,
+    ) -> Answer
+        ensures { λ (r : Answer). ⌜ shown r (now (home .exit)) (now (working .exit)) (now (log .exit))
+            ≡ stepped deleteOldest supply (view self) (memory (now (home .entry)) (now (working .entry)) (now (log .entry))) ⌝ }
+    {
+        self.step(Step::DeleteOldest, home, working, log, supply)
+    }
+
+    // Takes no state. A recovery that is refused hands back the state that was lost.
+    pub fn recover(home: &mut [u64], working: &mut [u64], log: &mut [u64], supply: u64) -> Answer
+        ensures { λ (r : Answer). ⌜ shown r (now (home .exit)) (now (working .exit)) (now (log .exit))
+            ≡ stepped recover supply lostMachine (memory (now (home .entry)) (now (working .entry)) (now (log .entry))) ⌝ }
+    {
+        answer(steps::recover(home, working, log, supply))
+    }
+}

@@ -1,0 +1,60 @@
+-- `deleting::is_needed` meets its contract: each arm of the match asks what its type of record is asked.
+use Rattle.recovery.proofs.DeleteRows.{needed-read}
+use borrow.Author.Needs.{needs}
+use Rattle.recovery.proofs.deleting.is_needed.Statement.{statement}
+use Rattle.recovery.proofs.deleting.is_needed.Tie as tie
+
+enum-known-oldest : tie.Need-enum-known-oldest
+enum-known-oldest c = search needs
+
+enum-known-entry : tie.Need-enum-known-entry
+enum-known-entry c = search needs
+
+is-kept-requires : tie.Need-is-kept-requires
+is-kept-requires c κs = search needs
+
+enum-known-entry-2 : tie.Need-enum-known-entry-2
+enum-known-entry-2 c = search needs
+
+is-kept-requires-2 : tie.Need-is-kept-requires-2
+is-kept-requires-2 c κs = search needs
+
+enum-told : tie.Need-enum-told
+enum-told c = search needs
+
+enum-told-2 : tie.Need-enum-told-2
+enum-told-2 c = search needs
+
+returns : tie.Need-returns
+returns c =
+    needed-read _ _ _ _ _ _ (c .before .before .before .before .before .oldest .given .1)
+    (c .before .before .entry .given .1)
+    (c .is-kept .ensures)
+
+returns-2 : tie.Need-returns-2
+returns-2 c =
+    needed-read _ _ _ _ _ _ (c .before .before .before .before .before .oldest .given .1)
+    (c .before .before .entry2 .given .1)
+    (c .is-kept2 .ensures)
+
+returns-3 : tie.Need-returns-3
+returns-3 c = search needs
+
+returns-4 : tie.Need-returns-4
+returns-4 c = search needs
+
+pub is-needed-spec : {M : Type 1} → statement M
+is-needed-spec =
+    tie.close
+    (tie.spec
+    enum-known-oldest
+    enum-known-entry
+    is-kept-requires
+    enum-known-entry-2
+    is-kept-requires-2
+    enum-told
+    enum-told-2
+    returns
+    returns-2
+    returns-3
+    returns-4)

@@ -1,0 +1,181 @@
+-- `recovering::recover` meets its contract: it is refused before or after it reads the log, cut, or done.
+use mathlib.Core.Path.{_≡_, refl, sym, _∙_}
+use native.Mathlib.Omega.{arith}
+use Rattle.model.specs.Machine.{Memory}
+use Rattle.model.specs.Refusals.{numberOf}
+use Rattle.recovery.specs.Outcome.{memory, unreadableRows}
+use Rattle.recovery.proofs.RecoverStep.{fits-unread, refused-unread, recover-refused, recover-damaged, recover-cut, recover-done}
+use borrow.Author.Needs.{needs}
+use Rattle.recovery.proofs.recovering.recover.Statement.{statement}
+use Rattle.recovery.proofs.recovering.recover.Tie as tie
+
+unreadable-requires : tie.Need-unreadable-requires
+unreadable-requires c κs = search needs
+
+ended-requires : tie.Need-ended-requires
+ended-requires c κs = search needs
+
+same-length : tie.Need-same-length
+same-length c = search needs
+
+same-length-2 : tie.Need-same-length-2
+same-length-2 c = search needs
+
+same-length-3 : tie.Need-same-length-3
+same-length-3 c = search needs
+
+returns : tie.Need-returns
+returns c =
+    let a = c .before .before .before .before .before .before .before .before .before .args in
+    let m = memory (a .home .now) (a .working .now) (a .log .now) in
+    recover-refused m (a .supply) _ _ (c .before .before .unreadable .result)
+    (refused-unread m _ (c .before .before .unreadable .ensures) (c .before .if1 .taken))
+    (c .before .if1 .taken)
+    (c .ended .ensures)
+    refl
+
+-- the buffers at the start, where the log can be read
+abbrev before : tie.Else1 → Memory
+before c =
+    let a = c .before .before .before .before .before .before .before .before .args in
+    memory (a .home .now) (a .working .now) (a .log .now)
+
+zero : (c : tie.Else1) → 0 ≡ numberOf (unreadableRows (before c))
+zero c = sym (c .if1 .left) ∙ c .before .unreadable .ensures
+
+cast-words : tie.Need-cast-words
+cast-words c =
+    let r = fits-unread (before c) (zero c) in
+    omega arith
+
+slots-requires : tie.Need-slots-requires
+slots-requires c κs = search needs
+
+cast-slots : tie.Need-cast-slots
+cast-slots c =
+    let read = c .before .before in
+    let r = fits-unread (before read) (zero read) in
+    let e = c .slots .ensures in
+    omega arith
+
+replay-requires : tie.Need-replay-requires
+replay-requires c κs = search needs
+
+ended-requires-2 : tie.Need-ended-requires-2
+ended-requires-2 c κs = search needs
+
+same-length-4 : tie.Need-same-length-4
+same-length-4 c = search needs
+
+same-length-5 : tie.Need-same-length-5
+same-length-5 c = search needs
+
+same-length-6 : tie.Need-same-length-6
+same-length-6 c = search needs
+
+returns-2 : tie.Need-returns-2
+returns-2 c =
+    let after = c .before .before .before .before in
+    let read = after .before .before .before .before .before in
+    let a = read .before .before .before .before .before .before .before .before .args in
+    recover-damaged (before read) (a .supply) _ _ (zero read) (after .replay .result) (after .replay .ensures .0) (after .replay .ensures .1)
+    (c .before .if2 .taken)
+    (c .ended2 .ensures)
+    refl
+    refl
+
+set-head-requires : tie.Need-set-head-requires
+set-head-requires c κs = search needs
+
+clear-requires : tie.Need-clear-requires
+clear-requires c κs = search needs
+
+ended-requires-3 : tie.Need-ended-requires-3
+ended-requires-3 c κs = search needs
+
+same-length-7 : tie.Need-same-length-7
+same-length-7 c = search needs
+
+same-length-8 : tie.Need-same-length-8
+same-length-8 c = search needs
+
+same-length-9 : tie.Need-same-length-9
+same-length-9 c = search needs
+
+returns-3 : tie.Need-returns-3
+returns-3 c =
+    let headed = c .before .before .before .before .before .before .before .before .before in
+    let after = headed .before .before .before .before .before in
+    let read = after .before .before .before .before .before in
+    let a = read .before .before .before .before .before .before .before .before .args in
+    recover-cut (before read) (a .supply) _ _ (zero read) (after .replay .result) (after .replay .ensures .0) (after .replay .ensures .1)
+    (headed .before .before .if2 .left)
+    (headed .set-head .ensures .1)
+    (c .before .before .before .before .before .if3 .taken)
+    (c .ended3 .ensures)
+    (c .before .before .before .clear .ensures)
+
+copy-requires : tie.Need-copy-requires
+copy-requires c κs =
+    let after = c .before .before .before .before .before .before .before .before .before .before .before in
+    let read = after .before .before .before .before .before in
+    fits-unread (before read) (zero read) .working ∙ sym (after .replay .kept .0)
+
+same-length-10 : tie.Need-same-length-10
+same-length-10 c = search needs
+
+same-length-11 : tie.Need-same-length-11
+same-length-11 c = search needs
+
+same-length-12 : tie.Need-same-length-12
+same-length-12 c = search needs
+
+returns-4 : tie.Need-returns-4
+returns-4 c =
+    let headed = c .before .before .before .before .before .before .before .before .before in
+    let after = headed .before .before .before .before .before in
+    let read = after .before .before .before .before .before in
+    let a = read .before .before .before .before .before .before .before .before .args in
+    let counted = after .before .before .before .slots in
+    recover-done (before read) (a .supply) _ _ (zero read) (after .replay .result) (after .replay .ensures .0) (after .replay .ensures .1)
+    (headed .before .before .if2 .left)
+    (headed .set-head .ensures .1)
+    (headed .set-head .result)
+    (counted .result)
+    (counted .ensures)
+    (c .before .before .before .before .before .if3 .left)
+    (headed .set-head .ensures .0)
+    refl
+    (c .before .before .copy .ensures)
+
+pub recover-spec : {M : Type 1} → statement M
+recover-spec =
+    tie.close
+    (tie.spec
+    unreadable-requires
+    ended-requires
+    same-length
+    same-length-2
+    same-length-3
+    returns
+    cast-words
+    slots-requires
+    cast-slots
+    replay-requires
+    ended-requires-2
+    same-length-4
+    same-length-5
+    same-length-6
+    returns-2
+    set-head-requires
+    clear-requires
+    ended-requires-3
+    same-length-7
+    same-length-8
+    same-length-9
+    returns-3
+    copy-requires
+    same-length-10
+    same-length-11
+    same-length-12
+    returns-4)

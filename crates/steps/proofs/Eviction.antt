@@ -1,0 +1,174 @@
+-- A line evicted: the entries that its ULog words add, how many must be logged before, and the state after it.
+use Prim.Native.Nat.{ℕ, _+_, _-_, _*_, _/_, _≤_, _<_}
+use mathlib.Core.Path.{_≡_, refl, sym, ap, ap₂, subst, _∙_}
+use mathlib.Core.Bool.{false, cond, _&&_}
+use mathlib.Core.List.{List, [], _++_, map, map-map}
+use native.Mathlib.Omega.{arith}
+use lib.Dec.{ltb}
+use lib.ListN.{length, getD, take, drop, replicate, length-map, length-drop}
+use Rattle.log.specs.declared.Record.{Record}
+use Rattle.log.specs.Region.{numbers}
+use Rattle.log.specs.Holding.{Every}
+use Rattle.parts.specs.declared.Entry.{Entry}
+use Rattle.parts.specs.declared.RedoBuffer.{RedoBuffer}
+use Rattle.parts.specs.declared.Line.{Line}
+use Rattle.parts.specs.declared.Lines.{Lines}
+use Rattle.parts.specs.Lines.{lineAt, firstLines}
+use Rattle.parts.specs.States.{ULog}
+use Rattle.parts.specs.Waiting.{redosWaiting}
+use Rattle.parts.proofs.Waiting.{redoAt}
+use Rattle.parts.proofs.Listed.{length-listed}
+use Rattle.parts.proofs.Oldest.{length-oldest}
+use Rattle.model.specs.Lists.{keep, upTo}
+use Rattle.model.specs.Machine.{Machine, Memory, lostMachine, freeSlots, withTail, withLines, withRedo, lineOf, statesAs, changed}
+use Rattle.model.specs.Plan.{append, planned}
+use Rattle.model.specs.Refusals.{Row, unless, numberOf, noRoom}
+use Rattle.model.specs.Steps.{evicted, lacking, redoRecord, redoRecords, redosLogged, evictPlan}
+use Rattle.model.specs.Step.{evict, planOf, stepped}
+use Rattle.model.proofs.LinesInUse.{line-in-use}
+use Rattle.model.proofs.Outcomes.{number-then, outcome-refused}
+use Rattle.line_walks.specs.Walks.{isULog, ulogEntry, ulogEntries, addedAll}
+use Rattle.line_walks.proofs.ULogEntries.{added-all, entries-there}
+use Rattle.logging.proofs.LineWords.{keep-below}
+use Rattle.logging.proofs.Appending.{Appended}
+use Rattle.steps.specs.declared.Fields.{Fields}
+use Rattle.steps.specs.declared.Made.{Made}
+use Rattle.steps.specs.View.{view, shown}
+use Rattle.steps.proofs.Appending.{room, append-done, append-cut}
+use Rattle.steps.proofs.LineRows.{lineRows, none-refuse, LineFit, line-fit}
+
+-- the line at i, in use
+module _ (s : Fields) (i : ℕ) (line : Line) (read : line ≡ lineAt (s .lines) i) (below : i < s .words / 8) where
+  -- the entries that it adds
+  evicted-by : (mem : Memory) → evicted (view s) mem i ≡ map (ulogEntry line (mem .working) (8 * i)) (keep (isULog line) (upTo 8))
+  unfolding evicted
+  evicted-by mem =
+      ap (map (λ w. record { thread = lineOf (view s .lines) i .holder; word = w; undo = 0; redo = getD (mem .working) w 0 }))
+      (keep-below (s .words / 8) (s .lines) i below ULog)
+      ∙ map-map (λ w. record { thread = lineOf (view s .lines) i .holder; word = w; undo = 0; redo = getD (mem .working) w 0 })
+      (λ j. 8 * i + j) (keep (isULog (lineAt (s .lines) i)) (upTo 8))
+      ∙ ap (λ (l : Line). map (ulogEntry l (mem .working) (8 * i)) (keep (isULog (lineAt (s .lines) i)) (upTo 8)))
+      (sym (line-in-use (s .words / 8) (s .lines) i below))
+      ∙ ap (λ (l : Line). map (ulogEntry l (mem .working) (8 * i)) (keep (isULog l) (upTo 8))) (sym read)
+
+  -- how many they are
+  count-evicted : (mem : Memory) → length (evicted (view s) mem i) ≡ length (keep (isULog line) (upTo 8))
+  count-evicted mem =
+      ap length (evicted-by mem) ∙ length-map (keep (isULog line) (upTo 8)) (ulogEntry line (mem .working) (8 * i))
+
+  -- how many entries must be logged
+  pub lacking-by : (mem : Memory) (count : ℕ) → count ≡ s .redos .len + length (keep (isULog line) (upTo 8)) - 32 → count ≡ lacking (view s) mem i
+  lacking-by mem count e =
+      let a = length-listed (s .redos .len) (redoAt (s .redos)) in
+      let b = count-evicted mem in
+      omega arith
+
+  -- where so many are logged, there is a place for each new entry in the rest
+  module _ (rest : RedoBuffer) (mem : Memory) (count : ℕ) (e : redosWaiting rest ≡ drop count (redosWaiting (s .redos)))
+      (f : count ≡ lacking (view s) mem i) (h : count ≤ s .redos .len) where
+    places : rest .len + length (keep (isULog line) (upTo 8)) ≤ 32
+    places =
+        let a = length-listed (s .redos .len) (redoAt (s .redos)) in
+        let b = count-evicted mem in
+        let d = length-listed (rest .len) (redoAt rest) in
+        let g : length (redosWaiting rest) ≡ length (redosWaiting (s .redos)) - count = ap length e ∙ length-drop count (redosWaiting (s .redos)) in
+        omega arith
+
+    -- so each is put last
+    entries-added : (grown : RedoBuffer) → s .words ≤ 512 → length (mem .working) ≡ s .words
+        → redosWaiting grown ≡ addedAll (ulogEntries line (mem .working) (8 * i)) (redosWaiting rest)
+        → redosWaiting grown ≡ redosWaiting rest ++ evicted (view s) mem i
+    entries-added grown narrow sizes more =
+        let new : List Entry = map (ulogEntry line (mem .working) (8 * i)) (keep (isULog line) (upTo 8)) in
+        let room = places in
+        let a = length-listed (rest .len) (redoAt rest) in
+        let b = length-map (keep (isULog line) (upTo 8)) (ulogEntry line (mem .working) (8 * i)) in
+        more
+        ∙ ap (λ (xs : List Entry). addedAll xs (redosWaiting rest)) (entries-there line (mem .working) (8 * i) (omega arith) (omega arith))
+        ∙ added-all new (redosWaiting rest) (omega arith)
+        ∙ ap (λ (xs : List Entry). redosWaiting rest ++ xs) (sym (evicted-by mem))
+
+    -- the state after the eviction
+    pub set-down : (grown : RedoBuffer) (clean : Lines) → s .words ≤ 512 → length (mem .working) ≡ s .words
+        → redosWaiting grown ≡ addedAll (ulogEntries line (mem .working) (8 * i)) (redosWaiting rest)
+        → ((n : ℕ) → n ≤ 64 → firstLines n clean ≡ changed (statesAs 0) i (firstLines n (s .lines)))
+        → withTail (s .tail + count) (withLines (firstLines (s .words / 8) clean) (withRedo (redosWaiting grown) (view s)))
+        ≡ withLines (changed (statesAs 0) i (view s .lines)) (withRedo (drop count (view s .redo) ++ evicted (view s) mem i) (redosLogged count (view s)))
+    set-down grown clean narrow sizes more changes =
+        let lines : List Line = changed (statesAs 0) i (view s .lines) in
+        let redos : List Entry = drop count (view s .redo) ++ evicted (view s) mem i in
+        ap₂ (λ (ls : List Line) (es : List Entry). withTail (s .tail + count) (withLines ls (withRedo es (view s))))
+        (changes (s .words / 8) (omega arith))
+        (entries-added grown narrow sizes more ∙ ap (λ (xs : List Entry). xs ++ evicted (view s) mem i) e)
+        ∙ ap (λ (k : ℕ). withTail (s .tail + k) (withLines lines (withRedo redos (view s)))) (sym (length-oldest redoRecord count (s .redos .len) (redoAt (s .redos)) h))
+
+-- a buffer's length is the number of the entries that wait in it
+pub few-wait : (b : RedoBuffer) → length (redosWaiting b) ≤ 32 → b .len ≤ 32
+few-wait b h = rw length-listed at h
+
+module _ (i c : ℕ) (s : Fields) (mem : Memory) where
+  abbrev records : List Record
+  records = redoRecords (lacking (view s) mem i) (view s)
+
+  abbrev rows : List Row
+  rows = lineRows (view s) mem i (noRoom (view s) records)
+
+  -- the state after the eviction, for which k redo entries were logged
+  abbrev next : ℕ → Machine
+  next k =
+      withLines (changed (statesAs 0) i (view s .lines)) (withRedo (drop k (view s .redo) ++ evicted (view s) mem i) (redosLogged k (view s)))
+
+  plan : planOf (evict i) (view s) mem ≡ unless rows (planned (map append records) (next (lacking (view s) mem i)) (mem .working))
+  unfolding planOf evictPlan
+  plan = refl
+
+  -- there are as many records as entries lack places
+  size : (count : ℕ) → count ≡ lacking (view s) mem i → count ≤ s .redos .len → length records ≡ count
+  size count e h = rw (← e) (length-oldest redoRecord count (s .redos .len) (redoAt (s .redos)) h)
+
+  -- the number of the rows, where those before the last two do not apply
+  pub evict-number : (count n : ℕ) → numberOf (lineRows (view s) mem i []) ≡ 0 → count ≡ lacking (view s) mem i → count ≤ s .redos .len
+      → n ≡ cond (ltb (freeSlots (view s)) count) 10 (cond (ltb 0 count && ltb numbers (s .tail + count)) 11 0) → n ≡ numberOf rows
+  unfolding numberOf
+  evict-number count n none e h last =
+      last
+      ∙ ap (λ (k : ℕ). cond (ltb (freeSlots (view s)) k) 10 (cond (ltb 0 k && ltb numbers (s .tail + k)) 11 0)) (sym (size count e h))
+      ∙ sym (number-then (lineRows (view s) mem i []) (noRoom (view s) records) (none-refuse (view s) mem i [] tt none))
+
+  -- refused: all is as it was
+  pub evict-refused : (n : ℕ) → n ≡ numberOf rows → (n ≡ 0 → ⊥)
+      → shown (record { answer = n; left = c; state = s }) (mem .home) (mem .working) (mem .log) ≡ stepped (evict i) c (view s) mem
+  evict-refused n e some =
+      sym (outcome-refused (evict i) c (view s) mem rows (map append records) (next (lacking (view s) mem i)) (mem .working) plan n (sym e) some refl)
+
+  module _ (n : ℕ) (e : n ≡ numberOf rows) (z : n ≡ 0) where
+    none : Every (λ r. r .applies ≡ false) rows
+    none = none-refuse (view s) mem i (noRoom (view s) records) (omega arith, (omega arith, tt)) (sym e ∙ z)
+
+    -- what is known where it is not refused
+    pub evict-fit : LineFit (view s) mem i
+    evict-fit = line-fit (view s) mem i (noRoom (view s) records) none
+
+    room-for : s .tail + length records ≤ numbers
+    room-for = room (view s) records (evict-fit .fits .clauses .tail) (none .1 .1 .1 .1 .1 .1 .0)
+
+    module _ (count : ℕ) (lacks : count ≡ lacking (view s) mem i) (within : count ≤ s .redos .len) where
+      module _ (log : List ℕ) (rest : ℕ) (made : Appended c (mem .log) (s .tail) (redoRecords count (view s)) log rest) where
+        appended : Appended c (mem .log) (s .tail) records log rest
+        appended = subst (λ (k : ℕ). Appended c (mem .log) (s .tail) (redoRecords k (view s)) log rest) lacks made
+
+        -- done: the supply was enough
+        pub evict-done : (t : Fields) → 3 * count ≤ c → view t ≡ next count
+            → shown (record { answer = 0; left = rest; state = t }) (mem .home) (mem .working) log ≡ stepped (evict i) c (view s) mem
+        evict-done t h state =
+            let l = size count lacks within in
+            append-done (evict i) c (view s) mem rows records (next (lacking (view s) mem i)) (mem .working) plan none (evict-fit .fits) room-for
+            (record { answer = 0; left = rest; state = t }) log (omega arith) appended refl (state ∙ ap next lacks)
+
+        -- cut: it was not
+        pub evict-cut : (r : Made) (after : List ℕ) → c < 3 * count → (r .answer ≡ 255) × ((r .left ≡ 0) × (view (r .state) ≡ lostMachine))
+            → after ≡ replicate (length (mem .working)) 0 → shown r (mem .home) after log ≡ stepped (evict i) c (view s) mem
+        evict-cut r after h answer cleared =
+            let l = size count lacks within in
+            append-cut (evict i) c (view s) mem rows records (next (lacking (view s) mem i)) (mem .working) plan none (evict-fit .fits) room-for
+            r after log rest (omega arith) appended answer cleared

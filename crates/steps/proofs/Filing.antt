@@ -1,0 +1,195 @@
+-- A store's parts: the entry that is logged first, what is filed by the word's state, and the state after them.
+use Prim.Native.Nat.{ℕ, zero, suc, _+_, _-_, _/_, _≤_, _<_}
+use mathlib.Core.Path.{_≡_, refl, sym, _∙_, ap}
+use mathlib.Core.Bool.{Bool, true, false, cond, _&&_, not}
+use mathlib.Core.List.{List, [], _∷_, _++_}
+use native.Mathlib.Omega.{arith}
+use borrow.Author.Tests.{leb-true, leb-false, ne-eqb}
+use lib.Dec.{eqb, leb}
+use lib.ListN.{length, getD, set, length-drop, length-set}
+use lib.Seq.{set-getD}
+use Rattle.parts.specs.declared.Entry.{Entry}
+use Rattle.parts.specs.declared.UndoBuffer.{UndoBuffer}
+use Rattle.parts.specs.declared.RedoBuffer.{RedoBuffer}
+use Rattle.parts.specs.declared.Line.{Line}
+use Rattle.parts.specs.declared.Lines.{Lines}
+use Rattle.parts.specs.Lines.{lineAt, firstLines, putLine}
+use Rattle.parts.specs.States.{Clean, Dirty, ULog}
+use Rattle.parts.specs.Listed.{listed}
+use Rattle.parts.specs.Waiting.{waitingOf, undosWaiting, redosWaiting, discarded, amended}
+use Rattle.parts.proofs.Listed.{length-listed}
+use Rattle.parts.proofs.Waiting.{undoAt, redoAt, WholeBuffer, waiting-added}
+use Rattle.parts.proofs.FirstLines.{WholeLines}
+use Rattle.model.proofs.LinesInUse.{first-changed}
+use Rattle.line_walks.proofs.WordStates.{withStates, replaced, first-marked}
+use Rattle.model.specs.Machine.{Machine, Memory, changed, marked, heldBy, dirtyAs, stateIn, allLogged, withTail, withLines, withUndoRedo, withRedo}
+use Rattle.model.specs.Steps.{undosLogged, storeLogs, storedAs, storeNext}
+use Rattle.model.proofs.Lists.{both-right}
+use Rattle.steps.specs.declared.Fields.{Fields}
+use Rattle.steps.specs.View.{view}
+
+-- how many entries are logged first, by the code's test
+pub logs-by : (m : Machine) (w : ℕ) (same t : Bool) (k n : ℕ) → k ≡ stateIn (m .lines) w → n ≡ length (m .undoRedo)
+    → (not same && (eqb k 0 && leb 16 n)) ≡ t → cond t 1 0 ≡ storeLogs m w same
+unfolding storeLogs
+logs-by m w same t k n a b e = rw (← e, a, b)
+
+-- it is one at most, and no more than wait
+pub logs-most : (m : Machine) (w : ℕ) (same : Bool) → (storeLogs m w same ≤ 1) × (storeLogs m w same ≤ length (m .undoRedo))
+unfolding storeLogs
+logs-most m w same = pick (not same && (clean && full)) refl
+  where
+    clean : Bool
+    clean = eqb (stateIn (m .lines) w) Clean
+
+    full : Bool
+    full = leb 16 (length (m .undoRedo))
+
+    pick : (t : Bool) → (not same && (clean && full)) ≡ t → (cond t 1 0 ≤ 1) × (cond t 1 0 ≤ length (m .undoRedo))
+    pick true e =
+        let h = leb-true 16 (length (m .undoRedo)) (both-right clean full (both-right (not same) (clean && full) e)) in
+        (omega arith, omega arith)
+    pick false e = (omega arith, omega arith)
+
+-- where another value comes to a Clean word and at most 16 entries wait, fewer than 16 remain once those are logged that come first
+pub logs-room : (m : Machine) (w : ℕ) (same : Bool) (k n : ℕ) → same ≡ false → k ≡ stateIn (m .lines) w → k ≡ 0 → n ≡ storeLogs m w same
+    → length (m .undoRedo) ≤ 16 → length (m .undoRedo) - n < 16
+unfolding storeLogs
+logs-room m w same k n e kind clean count most = pick (leb 16 (length (m .undoRedo))) refl
+  where
+    counted : n ≡ cond (leb 16 (length (m .undoRedo))) 1 0
+    counted = count ∙ rw (e, ← kind, clean)
+
+    pick : (t : Bool) → leb 16 (length (m .undoRedo)) ≡ t → length (m .undoRedo) - n < 16
+    pick true full =
+        let one : n ≡ 1 = counted ∙ ap (λ (t : Bool). cond t 1 0) full in
+        omega arith
+    pick false full =
+        let h = leb-false 16 (length (m .undoRedo)) full in
+        omega arith
+
+-- as many entries wait as a buffer's length says
+pub undos-length : (b : UndoBuffer) → length (undosWaiting b) ≡ b .len
+undos-length b = length-listed (b .len) (undoAt b)
+
+pub redos-length : (b : RedoBuffer) → length (redosWaiting b) ≡ b .len
+redos-length b = length-listed (b .len) (redoAt b)
+
+-- there are 16 places for each field of an undo+redo buffer
+abbrev pub WholeUndos : UndoBuffer → Type 0
+WholeUndos b = WholeBuffer 16 (b .threads) (b .words) (b .undos) (b .redos)
+
+-- where no entry is logged, nothing changes
+pub none-logged : (m : Machine) (k : ℕ) → k ≡ 0 → m ≡ undosLogged k m
+unfolding allLogged
+none-logged m k e = rw e (let h : m .tail ≡ m .tail + 0 = omega arith in ap (λ (n : ℕ). withTail n m) h)
+
+-- a state whose oldest undo+redo entries were logged has that many fewer of them, and as many redo entries
+pub logged-limits : (r s : Fields) (ls : List Line) (k : ℕ) → view r ≡ undosLogged k (withLines ls (view s))
+    → (r .undos .len ≡ s .undos .len - k) × ((r .redos .len ≡ s .redos .len) × (r .words ≡ s .words))
+logged-limits r s ls k e =
+    let u : r .undos .len ≡ s .undos .len - k =
+    sym (undos-length (r .undos))
+    ∙ ap (λ (m : Machine). length (m .undoRedo)) e
+    ∙ length-drop k (undosWaiting (s .undos))
+    ∙ ap (λ (n : ℕ). n - k) (undos-length (s .undos)) in
+    let d : r .redos .len ≡ s .redos .len =
+    sym (redos-length (r .redos)) ∙ ap (λ (m : Machine). length (m .redo)) e ∙ redos-length (s .redos) in
+    (u, (d, ap (λ (m : Machine). m .words) e))
+
+-- what is filed by the word's state: a first entry, another redo, another state, or nothing
+module _ (m : Machine) (e : Entry) (k : ℕ) where
+  pub filed-clean : (ls : List Line) (us ds : List Entry) → k ≡ 0 → ls ≡ marked Dirty (e .word) (m .lines)
+      → us ≡ m .undoRedo ++ (e ∷ []) → ds ≡ discarded (e .word) (m .redo)
+      → withLines ls (withRedo ds (withUndoRedo us m)) ≡ storedAs k (e .thread) (e .word) (e .undo) (e .redo) m
+  unfolding storedAs
+  filed-clean ls us ds k=0 a b d = rw (k=0, a, b, d)
+
+  pub filed-dirty : (us : List Entry) → k ≡ 1 → us ≡ amended (e .word) (e .redo) (m .undoRedo)
+      → withUndoRedo us m ≡ storedAs k (e .thread) (e .word) (e .undo) (e .redo) m
+  unfolding storedAs
+  filed-dirty us k=1 a = rw (k=1, a)
+
+  pub filed-logged : (ls : List Line) → k ≡ 2 → ls ≡ marked ULog (e .word) (m .lines)
+      → withLines ls m ≡ storedAs k (e .thread) (e .word) (e .undo) (e .redo) m
+  unfolding storedAs
+  filed-logged ls k=2 a = rw (k=2, a)
+
+-- a word in any other state, the newest redo not logged, stays as it is
+pub filed-last : (m : Machine) (e : Entry) (k : ℕ) → (k ≡ 0 → ⊥) → (k ≡ 1 → ⊥) → (k ≡ 2 → ⊥)
+    → m ≡ storedAs k (e .thread) (e .word) (e .undo) (e .redo) m
+unfolding storedAs
+filed-last m e zero a b d = absurd (a refl)
+filed-last m e (suc zero) a b d = absurd (b refl)
+filed-last m e (suc (suc zero)) a b d = absurd (d refl)
+filed-last m e (suc (suc (suc k))) a b d = refl
+
+-- the same of a first entry put in place: `ds` are the redo entries that remain
+pub filed-first : (r : Fields) (e : Entry) (k : ℕ) (ts ws us vs states : List ℕ) (ds : List Entry) → WholeLines (r .lines) → WholeUndos (r .undos)
+    → r .undos .len < 16 → r .words ≤ 512 → k ≡ 0 → ts ≡ set (r .undos .threads) (r .undos .len) (e .thread)
+    → ws ≡ set (r .undos .words) (r .undos .len) (e .word) → us ≡ set (r .undos .undos) (r .undos .len) (e .undo)
+    → vs ≡ set (r .undos .redos) (r .undos .len) (e .redo) → states ≡ replaced (r .lines .states) (e .word) Dirty
+    → ds ≡ discarded (e .word) (redosWaiting (r .redos))
+    → withLines (firstLines (r .words / 8) (withStates states (r .lines)))
+    (withRedo ds (withUndoRedo (waitingOf (r .undos .len + 1) ts ws us vs) (view r)))
+    ≡ storedAs k (e .thread) (e .word) (e .undo) (e .redo) (view r)
+filed-first r e k ts ws us vs states ds lines undos short few clean t w u v marks kept =
+    filed-clean (view r) e k (firstLines (r .words / 8) (withStates states (r .lines)))
+    (waitingOf (r .undos .len + 1) ts ws us vs) ds clean
+    (rw marks (first-marked (r .words / 8) (r .lines) (e .word) Dirty lines (omega arith)))
+    (rw (t, w, u, v)
+    (waiting-added (r .undos .threads) (r .undos .words) (r .undos .undos) (r .undos .redos) 16 (r .undos .len) e undos short)) kept
+
+-- where no entry waits, none is discarded
+pub discarded-none : (w : ℕ) (b : RedoBuffer) → b .len ≡ 0 → redosWaiting b ≡ discarded w (redosWaiting b)
+unfolding listed discarded
+discarded-none w b e = rw e refl
+
+-- the lines whose line i is claimed by thread t, the arrays being changed in place
+module _ (n : ℕ) (ls : Lines) (i t : ℕ) (hs : List ℕ) (whole : WholeLines ls) (h : n ≤ 64) (held : hs ≡ set (ls .holders) i t) where
+  pub held-lines : firstLines n (record { holders = hs; dirty = ls .dirty; states = ls .states }) ≡ changed (heldBy t) i (firstLines n ls)
+  held-lines = rw held (ap (firstLines n) (sym held-put) ∙ first-changed (heldBy t) n ls i whole h)
+    where
+      held-put : putLine ls i (heldBy t (lineAt ls i)) ≡ record { holders = set (ls .holders) i t; dirty = ls .dirty; states = ls .states }
+      held-put = simp set-getD
+
+  module _ (ds : List Bool) (dirty : ds ≡ set (ls .dirty) i true) where
+    pub dirty-lines : firstLines n (record { holders = hs; dirty = ds; states = ls .states })
+        ≡ changed (λ line. dirtyAs true (heldBy t line)) i (firstLines n ls)
+    dirty-lines =
+        rw (held, dirty) (ap (firstLines n) (sym dirty-put) ∙ first-changed (λ line. dirtyAs true (heldBy t line)) n ls i whole h)
+      where
+        dirty-put : putLine ls i (dirtyAs true (heldBy t (lineAt ls i)))
+            ≡ record { holders = set (ls .holders) i t; dirty = set (ls .dirty) i true; states = ls .states }
+        dirty-put = simp set-getD
+
+    pub whole-dirty : WholeLines (record { holders = hs; dirty = ds; states = ls .states })
+    whole-dirty =
+        record {
+          holders = ap length held ∙ simp length-set (whole .holders);
+          dirty = ap length dirty ∙ simp length-set (whole .dirty);
+          states = whole .states;
+        }
+
+-- a state with its arrays whole, seen as a state of the model
+pub record Ready (m : Machine) (r : Fields) : Type 0 where
+  pub seen : view r ≡ m
+  pub lines : WholeLines (r .lines)
+  pub undos : WholeUndos (r .undos)
+
+-- only for a Clean word is an entry logged first
+pub logs-none : (m : Machine) (w : ℕ) (same : Bool) (k n : ℕ) → same ≡ false → k ≡ stateIn (m .lines) w → (k ≡ 0 → ⊥) → n ≡ storeLogs m w same → n ≡ 0
+unfolding storeLogs
+logs-none m w same k n e kind ne count = count ∙ rw (e, ← kind, ne-eqb k 0 ne)
+
+-- the state after a store of the same value, and of another
+module _ (m : Machine) (mem : Memory) (t w v : ℕ) (same : Bool) (ls : List Line) where
+  pub next-same : same ≡ true → ls ≡ changed (heldBy t) (w / 8) (m .lines) → withLines ls m ≡ storeNext m mem t w v same
+  unfolding storeNext
+  next-same e claim = rw (claim, e)
+
+  pub next-other : (old k n : ℕ) (room next : Machine) → same ≡ false → ls ≡ changed (λ line. dirtyAs true (heldBy t line)) (w / 8) (m .lines)
+      → getD (mem .working) w 0 ≡ old → n ≡ storeLogs m w same → k ≡ stateIn (m .lines) w → room ≡ undosLogged n (withLines ls m)
+      → next ≡ storedAs k t w old v room → next ≡ storeNext m mem t w v same
+  unfolding storeNext
+  next-other old k n room next e claim was count kind r f = f ∙ rw (r, count, kind, claim, ← was, e)

@@ -1,0 +1,15 @@
+-- Laws that the proofs of the functions share.
+pub mod Appending
+pub mod Refused
+pub mod LoggingOldest
+pub mod DeleteStep
+pub mod Outcome
+pub mod LineWords
+pub mod LineRows
+pub mod WritingBack
+pub mod Eviction
+pub mod Filing
+pub mod StoreRows
+pub mod Commits
+pub mod RecoverStep
+pub mod Sound

@@ -1,0 +1,24 @@
+-- `commit_refusal` meets its contract.
+use borrow.Author.Needs.{needs}
+use Rattle.steps.proofs.Commits.{commit-number}
+use Rattle.steps.proofs.committing.commit_refusal.Statement.{statement}
+use Rattle.steps.proofs.committing.commit_refusal.Tie as tie
+
+no-room-requires : tie.Need-no-room-requires
+no-room-requires c κs = search needs
+
+refuse-requires : tie.Need-refuse-requires
+refuse-requires c κs = search needs
+
+refuse-requires-2 : tie.Need-refuse-requires-2
+refuse-requires-2 c κs = search needs
+
+returns : tie.Need-returns
+returns c m rs has e =
+    let a = c .before .before .before .args in
+    rw (c .refuse2 .ensures, c .before .refuse .ensures, c .before .before .no-room .ensures)
+    (commit-number (a .opened) (a .slots) (a .head) (a .tail) (a .thread) (a .count) m rs has e)
+
+pub commit-refusal-spec : {M : Type 1} → statement M
+commit-refusal-spec =
+    tie.close (tie.spec no-room-requires refuse-requires refuse-requires-2 returns)

@@ -1,0 +1,149 @@
+-- `redo_logged` meets its contract: refused, cut, or done with the oldest redo entry logged.
+use mathlib.Core.Path.{_≡_, refl}
+use mathlib.Core.Bool.{false}
+use mathlib.Core.List.{List, _++_, map}
+use native.Mathlib.Omega.{arith}
+use borrow.Author.Needs.{needs}
+use lib.ListN.{drop}
+use Rattle.log.specs.declared.Record.{Record}
+use Rattle.parts.specs.Waiting.{redosWaiting}
+use Rattle.parts.proofs.Waiting.{redoAt}
+use Rattle.model.specs.Machine.{Memory}
+use Rattle.model.specs.Plan.{append, planned}
+use Rattle.model.specs.Refusals.{unless, common}
+use Rattle.model.specs.Steps.{redoRecord, redosLogged, logRedoPlan}
+use Rattle.model.specs.Step.{logRedo, planOf}
+use Rattle.logging.proofs.Guards.{redos-appended}
+use Rattle.steps.specs.declared.Fields.{Fields}
+use Rattle.steps.specs.View.{view, memory}
+use Rattle.steps.proofs.LoggingOldest.{ownRows, oldest, count-oldest, Ready, ready, oldest-refused, oldest-cut, oldest-done, rest-waits, oneLogged}
+use Rattle.steps.proofs.log_oldest.redo_logged.Statement.{statement}
+use Rattle.steps.proofs.log_oldest.redo_logged.Tie as tie
+
+-- the record that it logs, or none
+abbrev records : Fields → List Record
+records s = oldest redoRecord (s .redos .len) (redoAt (s .redos))
+
+-- the step's plan
+plan : (s : Fields) (mem : Memory) → planOf logRedo (view s) mem
+    ≡ unless (common (view s) mem ++ ownRows (view s) (records s))
+    (planned (map append (records s)) (redosLogged 1 (view s)) (mem .working))
+unfolding planOf logRedoPlan
+plan s mem = refl
+
+-- where the step began, and where it was not refused
+abbrev start : tie.After-refusal → tie.Start
+start c = c .before .before .before .before .before .before
+
+abbrev passed : tie.After-append-redos → tie.Else1
+passed c = c .before .before .before .before .before .before
+
+-- what is known once it is not refused
+known : (c : tie.Else1) → let a = start (c .before) .args in
+    Ready (view (a .t1)) (memory (a .home .now) (a .working .now) (a .log .now)) 32 (a .t1 .redos .len) (records (a .t1))
+known c =
+    let a = start (c .before) .args in
+    let s = a .t1 in
+    ready redoRecord 32 (s .redos .len) (redoAt (s .redos)) (view s) (memory (a .home .now) (a .working .now) (a .log .now)) (c .before .refusal .result)
+    (λ d. omega (arith, d .redoSize))
+    (c .before .refusal .ensures (records s) (count-oldest redoRecord (s .redos .len) (redoAt (s .redos)))) (c .if1 .left)
+
+refusal-requires : tie.Need-refusal-requires
+refusal-requires c κs = c .before .before .before .before .before .pre
+
+refused-requires : tie.Need-refused-requires
+refused-requires c κs = search needs
+
+same-length : tie.Need-same-length
+same-length c = search needs
+
+same-length-2 : tie.Need-same-length-2
+same-length-2 c = search needs
+
+returns : tie.Need-returns
+returns c =
+    let refused = c .before .before in
+    let a = start refused .args in
+    let s = a .t1 in
+    let mem = memory (a .home .now) (a .working .now) (a .log .now) in
+    rw (c .refused .ensures)
+    (oldest-refused logRedo redoRecord 32 (s .redos .len) (redoAt (s .redos)) (a .supply) (view s) mem (redosLogged 1 (view s)) (plan s mem) (refused .refusal .result)
+    (refused .refusal .ensures (records s) (count-oldest redoRecord (s .redos .len) (redoAt (s .redos)))) (c .before .if1 .taken) refl)
+
+append-redos-requires : tie.Need-append-redos-requires
+append-redos-requires c κs = search needs
+
+cut-requires : tie.Need-cut-requires
+cut-requires c κs = search needs
+
+same-length-3 : tie.Need-same-length-3
+same-length-3 c = search needs
+
+same-length-4 : tie.Need-same-length-4
+same-length-4 c = search needs
+
+returns-2 : tie.Need-returns-2
+returns-2 c =
+    let ended = c .before .before in
+    let appended = ended .before .before .before .before .before in
+    let begun = passed appended in
+    let a = start (begun .before) .args in
+    let s = a .t1 in
+    let mem = memory (a .home .now) (a .working .now) (a .log .now) in
+    let e = appended .append-redos in
+    let d = ended .cut in
+    oldest-cut logRedo redoRecord 32 (s .redos .len) (redoAt (s .redos)) (a .supply) (view s) mem (redosLogged 1 (view s)) (plan s mem) (known begun) (d .result) (d .last .0)
+    (e .last .0) (e .result) (ended .before .before .if2 .taken) (redos-appended 1 (s .redos) (known begun .short) (e .ensures))
+    (d .ensures .0) (d .ensures .1)
+
+drop-oldest-requires : tie.Need-drop-oldest-requires
+drop-oldest-requires c κs = search needs
+
+add-state : tie.Need-add-state
+add-state c =
+    let k = known (passed (c .before .before .before .before .before)) in
+    omega (arith, k .fits .clauses .tail)
+
+same-length-5 : tie.Need-same-length-5
+same-length-5 c = search needs
+
+same-length-6 : tie.Need-same-length-6
+same-length-6 c = search needs
+
+returns-3 : tie.Need-returns-3
+returns-3 c =
+    let taken = c .before .before in
+    let dropped = c .drop-oldest in
+    let appended = taken .before .before .before in
+    let begun = passed appended in
+    let a = start (begun .before) .args in
+    let s = a .t1 in
+    let mem = memory (a .home .now) (a .working .now) (a .log .now) in
+    let e = appended .append-redos in
+    let k = known begun in
+    let rest : redosWaiting (dropped .result) ≡ drop 1 (redosWaiting (s .redos)) = rest-waits 32 1 (s .redos .len) (redoAt (s .redos)) (redosWaiting (dropped .result)) (k .short) (dropped .ensures) in
+    let next = oneLogged s (s .lines) (s .undos) (dropped .result) in
+    let same : view next ≡ redosLogged 1 (view s) = rw (rest, k .one) in
+    oldest-done logRedo redoRecord 32 (s .redos .len) (redoAt (s .redos)) (a .supply) (view s) mem (redosLogged 1 (view s)) (plan s mem) k
+    (record { answer = 0; left = e .result; state = next }) (e .last .0) (taken .if2 .left)
+    (redos-appended 1 (s .redos) (k .short) (e .ensures)) refl same
+
+pub redo-logged-spec : {M : Type 1} → statement M
+redo-logged-spec =
+    tie.close
+    (tie.spec
+    refusal-requires
+    refused-requires
+    same-length
+    same-length-2
+    returns
+    append-redos-requires
+    cut-requires
+    same-length-3
+    same-length-4
+    returns-2
+    drop-oldest-requires
+    add-state
+    same-length-5
+    same-length-6
+    returns-3)

@@ -1,0 +1,19 @@
+-- `late_refusal` is the first of its numbers that applies. Assumes nothing.
+use borrow.Author.Needs.{needs}
+use Rattle.steps.proofs.storing.late_refusal.Statement.{statement}
+use Rattle.steps.proofs.storing.late_refusal.Tie as tie
+
+no-room-requires : tie.Need-no-room-requires
+no-room-requires c κs = search needs
+
+refuse-requires : tie.Need-refuse-requires
+refuse-requires c κs = search needs
+
+refuse-requires-2 : tie.Need-refuse-requires-2
+refuse-requires-2 c κs = search needs
+
+returns : tie.Need-returns
+returns c = simp (c .refuse2 .ensures, c .before .refuse .ensures, c .before .before .no-room .ensures)
+
+pub late-refusal-spec : {M : Type 1} → statement M
+late-refusal-spec = tie.close (tie.spec no-room-requires refuse-requires refuse-requires-2 returns)

@@ -1,0 +1,274 @@
+-- `stored` hands back what the model's store gives. Assumes nothing.
+use Prim.Native.Nat.{_/_, _≤_}
+use mathlib.Core.Path.{_≡_, refl, sym, _∙_}
+use mathlib.Core.Bool.{Bool, true}
+use borrow.Author.Needs.{needs}
+use native.Mathlib.Omega.{arith}
+use lib.Dec.{eqb}
+use lib.ListN.{getD}
+use Rattle.model.specs.Machine.{Memory}
+use Rattle.model.specs.Refusals.{numberOf}
+use Rattle.model.specs.Steps.{storeLogs, undoRecords}
+use Rattle.logging.proofs.Appending.{Appended}
+use Rattle.logging.proofs.Guards.{undos-appended}
+use Rattle.steps.specs.View.{view, memory}
+use Rattle.steps.proofs.Filing.{logs-most, undos-length, redos-length}
+use Rattle.steps.proofs.StoreRows.{earlyRows, storeRows, late-number, early-refused, early-passed, late-decides, Known, known}
+use Rattle.steps.proofs.StoreRows.{store-refused, Allowed, allowed, store-done, store-cut}
+use Rattle.steps.proofs.storing.stored.Statement.{statement}
+use Rattle.steps.proofs.storing.stored.Tie as tie
+
+-- the lent buffers at entry
+abbrev lent : tie.Start → Memory
+lent c = memory (c .args .home .now) (c .args .working .now) (c .args .log .now)
+
+early-refusal-requires : tie.Need-early-refusal-requires
+early-refusal-requires c κs = search needs
+
+refused-requires : tie.Need-refused-requires
+refused-requires c κs = search needs
+
+returns : tie.Need-returns
+returns c =
+    let s = c .before .before .before .before .before .before in
+    let a = s .args in
+    let early = c .before .before .early-refusal in
+    rw (c .refused .ensures)
+    (store-refused (a .t1) (lent s) (a .supply) (a .thread) (a .word) (a .value) (early .result)
+    (early-refused (view (a .t1)) (lent s) (a .thread) (a .word) (a .value) (early .result)
+    (early .ensures (view (a .t1)) (lent s) refl (s .pre)) (c .before .if1 .taken))
+    (c .before .if1 .taken))
+
+-- no early row refuses the store
+module _ (c : tie.Else1) where
+  abbrev start : tie.Start
+  start = c .before .before .before .before .before
+
+  early-here : c .before .early-refusal .result ≡ numberOf (earlyRows (view (start .args .t1)) (lent start) (start .args .thread) (start .args .word))
+  early-here = c .before .early-refusal .ensures (view (start .args .t1)) (lent start) refl (start .pre)
+
+  known-here : Known (view (start .args .t1)) (lent start) (start .args .thread) (start .args .word)
+  known-here =
+      known (view (start .args .t1)) (lent start) (start .args .thread) (start .args .word)
+      (early-passed (view (start .args .t1)) (lent start) (start .args .thread) (start .args .word) (start .args .value)
+      (c .before .early-refusal .result) early-here (c .if1 .left))
+
+cast-t23 : tie.Need-cast-t23
+cast-t23 c =
+    let thread = known-here c .thread in
+    omega arith
+
+cast-late-refusal : tie.Need-cast-late-refusal
+cast-late-refusal c =
+    let word = known-here c .word in
+    let most = known-here c .width .most in
+    omega arith
+
+mul-late-refusal : tie.Need-mul-late-refusal
+mul-late-refusal c =
+    let word = known-here c .word in
+    let most = known-here c .width .most in
+    omega arith
+
+slice-read-late-refusal : tie.Need-slice-read-late-refusal
+slice-read-late-refusal c =
+    let word = known-here (c .before) .word in
+    let length = known-here (c .before) .fits .working in
+    omega arith
+
+element-copy-out-idle : tie.Need-element-copy-out-idle
+element-copy-out-idle c =
+    let thread = known-here (c .before) .thread in
+    omega arith
+
+held-by-another-requires : tie.Need-held-by-another-requires
+held-by-another-requires c κs =
+    let k = known-here (c .before .before .before .before) in
+    let word = k .word in
+    let most = k .width .most in
+    omega arith
+
+logs-first-requires : tie.Need-logs-first-requires
+logs-first-requires c κs =
+    let k = known-here (c .before .before .before .before .before .before .before .before) in
+    let word = k .word in
+    let most = k .width .most in
+    omega arith
+
+-- how many entries are logged first
+module _ (c : tie.After-logs-first) where
+  abbrev passed : tie.Else1
+  passed = c .before .before .before .before .before .before .before .before .before
+
+  abbrev same : Bool
+  same = eqb (start passed .args .value) (getD (start passed .args .working .now) (start passed .args .word) 0)
+
+  count-here : c .logs-first .result ≡ storeLogs (view (start passed .args .t1)) (start passed .args .word) same
+  count-here =
+      let word = known-here passed .word in
+      let whole = known-here passed .width .whole in
+      c .logs-first .ensures (start passed .args .t1) refl refl (omega arith)
+
+  count-few : c .logs-first .result ≤ 1
+  count-few =
+      let few = logs-most (view (start passed .args .t1)) (start passed .args .word) same .0 in
+      let count = count-here in
+      omega arith
+
+late-refusal-requires : tie.Need-late-refusal-requires
+late-refusal-requires c κs =
+    let clauses = known-here (passed c) .fits .clauses in
+    let few = count-few c in
+    (clauses .order, (clauses .span, (clauses .tail, few)))
+
+refused-requires-2 : tie.Need-refused-requires-2
+refused-requires-2 c κs = search needs
+
+-- the late rows decide then
+module _ (c : tie.After-late-refusal) where
+  abbrev begun : tie.Start
+  begun = start (passed (c .before))
+
+  late-here : c .late-refusal .result
+      ≡ numberOf (storeRows (view (begun .args .t1)) (lent begun) (begun .args .thread) (begun .args .word) (begun .args .value))
+  late-here =
+      let here = passed (c .before) in
+      let a = begun .args in
+      let k = known-here here in
+      let word = k .word in
+      let whole = k .width .whole in
+      let taken = c .before .before .before .before .before .held-by-another in
+      late-number (a .t1) (a .thread) (a .word) (same (c .before)) (taken .result)
+      (c .before .logs-first .result) (c .late-refusal .result) (count-here (c .before))
+      (taken .ensures (a .t1 .lines) refl (a .t1 .words / 8) (omega arith))
+      (c .late-refusal .ensures)
+      ∙ late-decides (view (a .t1)) (lent begun) (a .thread) (a .word) (a .value) (here .before .early-refusal .result)
+      (early-here here) (here .if1 .left)
+
+returns-2 : tie.Need-returns-2
+returns-2 c =
+    let late = c .before .before in
+    let a = begun late .args in
+    rw (c .refused2 .ensures)
+    (store-refused (a .t1) (lent (begun late)) (a .supply) (a .thread) (a .word) (a .value)
+    (late .late-refusal .result) (late-here late) (c .before .if2 .taken))
+
+append-undos-requires : tie.Need-append-undos-requires
+append-undos-requires c κs = search needs
+
+-- no row refuses the store, and the entries that come first are logged
+module _ (c : tie.After-slice-known4) where
+  abbrev late : tie.Else2
+  late = c .before .before .before .before .before .before .before .before .before
+
+  abbrev entry : tie.Start
+  entry = begun (late .before)
+
+  abbrev count : tie.After-logs-first
+  count = late .before .before
+
+  allowed-here : Allowed (entry .args .t1) (lent entry) (entry .args .supply) (entry .args .thread) (entry .args .word) (entry .args .value)
+  allowed-here =
+      allowed (entry .args .t1) (lent entry) (entry .args .supply) (entry .args .thread) (entry .args .word) (entry .args .value)
+      (sym (late-here (late .before)) ∙ late .if2 .left)
+
+  logged : Appended (entry .args .supply) (lent entry .log) (entry .args .t1 .tail) (undoRecords (count .logs-first .result) (view (entry .args .t1)))
+      (c .before .before .append-undos .last .0) (c .before .before .append-undos .result)
+  logged =
+      let undos = entry .args .t1 .undos in
+      let few : undos .len ≤ 16 = omega (arith, undos-length undos, allowed-here .known .fits .clauses .undoSize) in
+      undos-appended (count .logs-first .result) undos few (c .before .before .append-undos .ensures)
+
+mul-if3 : tie.Need-mul-if3
+mul-if3 c =
+    let few = count-few (count c) in
+    omega arith
+
+cut-requires : tie.Need-cut-requires
+cut-requires c κs = search needs
+
+same-length : tie.Need-same-length
+same-length c = search needs
+
+same-length-2 : tie.Need-same-length-2
+same-length-2 c = search needs
+
+returns-3 : tie.Need-returns-3
+returns-3 c =
+    let here = c .before .before .before .before .before in
+    let a = entry here .args in
+    let made = here .before .before .append-undos in
+    let cleared = c .before .before .cut in
+    store-cut (a .t1) (lent (entry here)) (a .supply) (a .thread) (a .word) (a .value) (allowed-here here)
+    (count here .logs-first .result) (count-here (count here)) (cleared .result) (made .last .0) (made .result) (logged here)
+    (cleared .last .0) (c .before .before .before .before .if3 .taken) (cleared .ensures .0) (cleared .ensures .1)
+
+mul-working : tie.Need-mul-working
+mul-working c = search needs
+
+slice-write-working : tie.Need-slice-write-working
+slice-write-working c =
+    let k = allowed-here (c .before) .known in
+    let word = k .word in
+    let length = k .fits .working in
+    omega arith
+
+next-state-requires : tie.Need-next-state-requires
+next-state-requires c κs =
+    let k = allowed-here (c .before) .known in
+    let s = entry (c .before) .args .t1 in
+    let undos = undos-length (s .undos) in
+    let redos = redos-length (s .redos) in
+    let f = k .fits .clauses in
+    let fewer = f .undoSize in
+    let few = f .redoSize in (
+      (omega arith, (omega arith, f .tail)),
+      ((k .word, (k .width .most, k .width .whole)), count-here (count (c .before))),
+    )
+
+same-length-3 : tie.Need-same-length-3
+same-length-3 c = search needs
+
+same-length-4 : tie.Need-same-length-4
+same-length-4 c = search needs
+
+returns-4 : tie.Need-returns-4
+returns-4 c =
+    let here = c .before .before in
+    let a = entry here .args in
+    let made = here .before .before .append-undos in
+    store-done (a .t1) (lent (entry here)) (a .supply) (a .thread) (a .word) (a .value) (allowed-here here)
+    (count here .logs-first .result) (count-here (count here))
+    (record { answer = 0; left = made .result; state = c .next-state .result })
+    (made .last .0) (made .result) (logged here)
+    (c .before .if3 .left) refl refl (c .next-state .ensures (lent (entry here)) refl)
+
+pub stored-spec : {M : Type 1} → statement M
+stored-spec =
+    tie.close
+    (tie.spec
+    early-refusal-requires
+    refused-requires
+    returns
+    cast-t23
+    cast-late-refusal
+    mul-late-refusal
+    slice-read-late-refusal
+    element-copy-out-idle
+    held-by-another-requires
+    logs-first-requires
+    late-refusal-requires
+    refused-requires-2
+    returns-2
+    append-undos-requires
+    mul-if3
+    cut-requires
+    same-length
+    same-length-2
+    returns-3
+    mul-working
+    slice-write-working
+    next-state-requires
+    same-length-3
+    same-length-4
+    returns-4)

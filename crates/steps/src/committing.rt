@@ -1,0 +1,160 @@
+// "Commit t: logs the whole undo+redo buffer, the whole redo buffer, then a redo record of the working value for each ULog word in
+// lines held by t, rising, then the commit record; .. lines held by t become unheld and all Clean".
+ghost use mathlib.Core.Path.{_≡_};
+ghost use mathlib.Core.List.{List, _∷_};
+ghost use Prim.Native.Nat.{ℕ, _+_, _%_, _≤_, _<_};
+ghost use lib.ListN.{length};
+ghost use Rattle.log.specs.declared.Record.{Record as Logged};
+ghost use Rattle.log.specs.Region.{numbers};
+ghost use Rattle.model.specs.Machine.{Machine, Memory};
+ghost use Rattle.model.specs.Refusals.{numberOf, common as commonRows, unknownThread, notOpen, noRoom};
+ghost use Rattle.model.specs.Steps.{commitRecords};
+ghost use Rattle.model.specs.Step.{commit, stepped};
+ghost use Rattle.steps.specs.View.{view, memory, shown};
+ghost use Rattle.steps.specs.Committing.{HasEntries, HasLog, Allowed, committedBy};
+use crate::DONE;
+use crate::Fields;
+use crate::IDLE;
+use crate::Made;
+use crate::THREAD;
+use crate::refusals::no_room;
+use crate::refusals::refuse;
+use crate::ways_out::cut;
+use crate::ways_out::refused;
+use logging::append_commit;
+use logging::count_newest;
+
+// The number of records that the thread's commit logs, with so many entries in the buffers.
+pub fn count_records<'a>(
+    undos: usize,
+    redos: usize,
+    words: u16,
+    holders: &'a [u8; 64],
+    states: &'a [u16; 64],
+    thread: u64,
+) -> u64
+    requires { ⌜ (words ≤ 512) × ((words % 8 ≡ 0) × ((undos ≤ 16) × (redos ≤ 32))) ⌝ }
+    ensures { λ r. ⌜ ((s : Fields) → HasEntries undos redos words (now (holders .entry)) (now (states .entry)) s
+        → (mem : Memory) → r ≡ length (commitRecords (view s) mem thread)) ⌝ }
+    ensures { λ r. ⌜ r ≤ 1024 ⌝ }
+{
+    let newest = count_newest(holders, states, (words / 8) as usize, thread);
+    (undos + redos + newest + 1) as u64
+}
+
+// The rows of a commit after the common ones. `opened` says whether the thread has an open transaction; the commit logs `count` records.
+pub fn commit_refusal(
+    opened: bool,
+    slots: u16,
+    head: u64,
+    tail: u64,
+    thread: u64,
+    count: u64,
+) -> u64
+    requires { ⌜ (head ≤ tail) × ((tail ≤ head + slots) × ((tail ≤ numbers) × (count ≤ 2048))) ⌝ }
+    ensures { λ r. ⌜ ((m : Machine) (rs : List Logged) → HasLog opened slots head tail thread m → count ≡ length rs
+        → r ≡ numberOf (unknownThread thread ∷ notOpen m thread ∷ noRoom m rs)) ⌝ }
+{
+    refuse(
+        7 < thread,
+        THREAD,
+        refuse(!opened, IDLE, no_room(slots, head, tail, count, 0)),
+    )
+}
+
+// The state after a commit that logged `count` records.
+fn after_commit(mut state: Fields, thread: u64, count: u64) -> Fields
+    requires { ⌜ (thread < 8) × ((state .words ≤ 512) × ((state .undos .len ≤ 16) × (state .tail + count ≤ numbers))) ⌝ }
+    ensures { λ (r : Fields). ⌜ view r ≡ committedBy thread count (view state) ⌝ }
+{
+    let t = thread as usize;
+    let undos = state.undos;
+    let lines = state.lines;
+    let marked = line_walks::all_logged(lines, undos, undos.len);
+    let free = line_walks::release(marked, (state.words / 8) as usize, thread);
+    state.lines = free;
+    state.undos.len = 0;
+    state.redos.len = 0;
+    state.opened[t] = false;
+    state.tail = state.tail + count;
+    state
+}
+
+// A commit that no row refuses and that logs `count` records: done or cut.
+fn carry_out(
+    state: Fields,
+    working: &mut [u64],
+    log: &mut [u64],
+    supply: u64,
+    thread: u64,
+    count: u64,
+) -> Made
+    requires { ⌜ (thread < 8) × ((state .words ≤ 512) × ((state .undos .len ≤ 16) × (state .tail + count ≤ numbers))) ⌝ }
+    ensures { λ (r : Made). ⌜ ((home : List ℕ) → Allowed thread count (view state) (memory home (now (working .entry)) (now (log .entry)))
+        → shown r home (now (working .exit)) (now (log .exit))
+        ≡ stepped (commit thread) supply (view state) (memory home (now (working .entry)) (now (log .entry)))) ⌝ }
+{
+    let undos = state.undos.len;
+    let redos = state.redos.len;
+    let left = append_commit(
+        log,
+        working,
+        state.tail,
+        undos,
+        &state.undos.threads,
+        &state.undos.words,
+        &state.undos.undos,
+        &state.undos.redos,
+        redos,
+        &state.redos.threads,
+        &state.redos.words,
+        &state.redos.redos,
+        &state.lines.holders,
+        &state.lines.states,
+        thread as u8,
+        supply,
+    );
+    if supply < 3 * count {
+        return cut(working);
+    }
+    Made {
+        answer: DONE,
+        left: left,
+        state: after_commit(state, thread, count),
+    }
+}
+
+// The step, `unfit` being the number of the rows that every step tests.
+pub fn committed(
+    state: Fields,
+    unfit: u64,
+    home: &[u64],
+    working: &mut [u64],
+    log: &mut [u64],
+    supply: u64,
+    thread: u64,
+) -> Made
+    requires { ⌜ unfit ≡ numberOf (commonRows (view state) (memory (now home) (now working) (now log))) ⌝ }
+    ensures { λ (r : Made). ⌜ shown r (now (home .entry)) (now (working .exit)) (now (log .exit))
+        ≡ stepped (commit thread) supply (view state) (memory (now (home .entry)) (now (working .entry)) (now (log .entry))) ⌝ }
+{
+    if unfit != 0 {
+        return refused(unfit, supply, state);
+    }
+    let undos = state.undos.len;
+    let redos = state.redos.len;
+    let count = count_records(
+        undos,
+        redos,
+        state.words,
+        &state.lines.holders,
+        &state.lines.states,
+        thread,
+    );
+    let opened = state.opened[(thread % 8) as usize];
+    let number = commit_refusal(opened, state.slots, state.head, state.tail, thread, count);
+    if number != 0 {
+        return refused(number, supply, state);
+    }
+    carry_out(state, working, log, supply, thread, count)
+}

@@ -1,0 +1,62 @@
+// The table of refusals: rows in rising order, and those that several steps share.
+ghost use mathlib.Core.Path.{_≡_};
+ghost use mathlib.Core.Bool.{cond, _&&_};
+ghost use Prim.Native.Nat.{_+_, _-_, _≤_};
+ghost use lib.Dec.{ltb};
+ghost use Rattle.log.specs.Region.{numbers};
+ghost use Rattle.model.specs.Machine.{Machine};
+ghost use Rattle.model.specs.Consistent.{consistent};
+ghost use Rattle.model.specs.Refusals.{numberOf, common as commonRows};
+ghost use Rattle.steps.specs.View.{memory};
+use crate::EXHAUSTED;
+use crate::FULL;
+use crate::INCONSISTENT;
+use crate::LOST;
+use crate::SIZE;
+use crate::sizes::wrong_size;
+
+// A row of the table before the rest of them.
+pub fn refuse(applies: bool, number: u64, rest: u64) -> u64
+    ensures { λ r. ⌜ r ≡ cond applies number rest ⌝ }
+{
+    if applies { number } else { rest }
+}
+
+// The number under which every step that is lent the buffers refuses a state, or 0; `sound` says whether the state is consistent.
+pub fn common(
+    lost: bool,
+    words: u16,
+    slots: u16,
+    head: u64,
+    sound: bool,
+    home: &[u64],
+    working: &[u64],
+    log: &[u64],
+) -> u64
+    ensures { λ r. ⌜ ((m : Machine) → m .lost ≡ lost → m .words ≡ words → m .slots ≡ slots → m .head ≡ head → sound ≡ consistent m
+        → r ≡ numberOf (commonRows m (memory (now (home .entry)) (now (working .entry)) (now (log .entry))))) ⌝ }
+{
+    let consistent = sound & (log::head(log) == head);
+    refuse(
+        wrong_size(lost, words, slots, home, working, log),
+        SIZE,
+        refuse(lost, LOST, refuse(!consistent, INCONSISTENT, 0)),
+    )
+}
+
+// The rows of a step that logs `count` records, before the rest; head and tail are those of a log of so many slots.
+pub fn no_room(slots: u16, head: u64, tail: u64, count: u64, rest: u64) -> u64
+    requires { ⌜ (head ≤ tail) × ((tail ≤ head + slots) × ((tail ≤ numbers) × (count ≤ 2048))) ⌝ }
+    ensures { λ r. ⌜ r ≡ cond (ltb (slots - (tail - head)) count) 10 (cond (ltb 0 count && ltb numbers (tail + count)) 11 rest) ⌝ }
+{
+    let free = slots as u64 - (tail - head);
+    refuse(
+        free < count,
+        FULL,
+        refuse(
+            (0 < count) & (0x1_0000_0000_0000 < tail + count),
+            EXHAUSTED,
+            rest,
+        ),
+    )
+}

@@ -1,0 +1,194 @@
+// "Store t, word, value": the line is claimed, and another value is filed by the word's state.
+ghost use mathlib.Core.Path.{_≡_};
+ghost use mathlib.Core.Bool.{cond, _&&_, not};
+ghost use mathlib.Core.List.{[], _∷_, _++_};
+ghost use Prim.Native.Nat.{ℕ, _+_, _-_, _/_, _%_, _≤_, _<_};
+ghost use lib.Dec.{eqb, ltb};
+ghost use lib.ListN.{getD};
+ghost use Rattle.log.specs.Region.{numbers};
+ghost use Rattle.parts.specs.Lines.{nobody, firstLines};
+ghost use Rattle.model.specs.Machine.{Machine, Memory, holderIn};
+ghost use Rattle.model.specs.Refusals.{numberOf, common as commonRows, unknownThread, unknownWord};
+ghost use Rattle.model.specs.Step.{store, stepped};
+ghost use Rattle.model.specs.Steps.{storeLogs, storeNext};
+ghost use Rattle.steps.specs.View.{view, memory, shown};
+use crate::DONE;
+use crate::Fields;
+use crate::HELD;
+use crate::IDLE;
+use crate::Made;
+use crate::PLACE;
+use crate::THREAD;
+use crate::places::find;
+use crate::places::put_flag;
+use crate::places::put_holder;
+use crate::places::put_thread;
+use crate::places::put_value;
+use crate::places::put_word;
+use crate::refusals::no_room;
+use crate::refusals::refuse;
+use crate::ways_out::cut;
+use crate::ways_out::refused;
+use crate::words::holder_of;
+use crate::words::state_of;
+use crate::words::undos_logged;
+use line_walks::mark;
+use logging::append_undos;
+use parts::Entry;
+use parts::Lines;
+
+// The two-bit states that a store tells apart.
+const CLEAN: u64 = 0;
+
+const DIRTY: u64 = 1;
+
+const UR_LOG: u64 = 2;
+
+const U_LOG: u64 = 3;
+
+// A thread other than this one holds the line of the word.
+pub fn held_by_another(holders: &[u8; 64], thread: u64, word: u16) -> bool
+    requires { ⌜ word < 512 ⌝ }
+    ensures { λ r. ⌜ ((ls : Lines) → ls .holders ≡ now (holders .entry) → (n : ℕ) → word / 8 < n
+        → r ≡ (not (eqb (holderIn (firstLines n ls) word) nobody) && not (eqb (holderIn (firstLines n ls) word) thread))) ⌝ }
+{
+    let holder = holder_of(holders, word) as u64;
+    (holder != 255) & (holder != thread)
+}
+
+// How many entries a store logs first: the oldest, if another value comes to a Clean word and 16 entries wait.
+pub fn logs_first(states: &[u16; 64], len: usize, word: u16, same: bool) -> usize
+    requires { ⌜ word < 512 ⌝ }
+    ensures { λ r. ⌜ ((s : Fields) → s .lines .states ≡ now (states .entry) → s .undos .len ≡ len → word / 8 < s .words / 8
+        → r ≡ storeLogs (view s) word same) ⌝ }
+{
+    let clean = state_of(states, word) == CLEAN;
+    if !same & (clean & (16 <= len)) { 1 } else { 0 }
+}
+
+// The state after a store that replaces `entry.undo` by `entry.redo` and that logs `count` entries first.
+pub fn next_state(mut state: Fields, entry: Entry, count: usize) -> Fields
+    requires { ⌜ (state .undos .len ≤ 16) × ((state .redos .len ≤ 32) × (state .tail ≤ 281474976710656)) ⌝ }
+    requires { ⌜ (entry .word < state .words) × ((state .words ≤ 512) × (state .words % 8 ≡ 0)) ⌝ }
+    requires { ⌜ count ≡ storeLogs (view state) (entry .word) (eqb (entry .redo) (entry .undo)) ⌝ }
+    ensures { λ (r : Fields). ⌜ ((mem : Memory) → getD (mem .working) (entry .word) 0 ≡ entry .undo
+        → view r ≡ storeNext (view state) mem (entry .thread) (entry .word) (entry .redo) (eqb (entry .redo) (entry .undo))) ⌝ }
+{
+    let line = (entry.word / 8) as usize;
+    let kind = state_of(&state.lines.states, entry.word);
+    put_holder(&mut state.lines.holders, line, entry.thread);
+    if entry.redo == entry.undo {
+        return state;
+    }
+    put_flag(&mut state.lines.dirty, line, true);
+    match kind {
+        CLEAN => {
+            if count != 0 {
+                state = undos_logged(state, count);
+            }
+            let at = state.undos.len;
+            put_thread(&mut state.undos.threads, at, entry.thread);
+            put_word(&mut state.undos.words, at, entry.word);
+            put_value(&mut state.undos.undos, at, entry.undo);
+            put_value(&mut state.undos.redos, at, entry.redo);
+            state.undos.len = at + 1;
+            mark(&mut state.lines.states, entry.word, DIRTY);
+            if state.redos.len != 0 {
+                let redos = state.redos;
+                let kept = redos.discard(entry.word);
+                state.redos = kept;
+            }
+        }
+        DIRTY => {
+            let len = state.undos.len;
+            let at = find(&state.undos.words, len, entry.word);
+            if at < len {
+                put_value(&mut state.undos.redos, at, entry.redo);
+            }
+        }
+        UR_LOG => mark(&mut state.lines.states, entry.word, U_LOG),
+        _ => {}
+    }
+    state
+}
+
+// The number of the rows that `unfit` is of, or of an unknown thread or word after them, or 0.
+pub fn early_refusal(unfit: u64, words: u16, thread: u64, word: u64) -> u64
+    ensures { λ r. ⌜ ((m : Machine) (mem : Memory) → m .words ≡ words → unfit ≡ numberOf (commonRows m mem)
+        → r ≡ numberOf (commonRows m mem ++ (unknownThread thread ∷ unknownWord m word ∷ []))) ⌝ }
+{
+    if unfit != 0 {
+        return unfit;
+    }
+    refuse(7 < thread, THREAD, refuse(words as u64 <= word, PLACE, 0))
+}
+
+// The number under which a store of a known thread to a known word is refused, or 0; it logs `count` records.
+pub fn late_refusal(idle: bool, taken: bool, count: usize, slots: u16, head: u64, tail: u64) -> u64
+    requires { ⌜ (head ≤ tail) × ((tail ≤ head + slots) × ((tail ≤ numbers) × (count ≤ 1))) ⌝ }
+    ensures { λ r. ⌜ r ≡ cond idle 6 (cond taken 8
+        (cond (ltb (slots - (tail - head)) count) 10 (cond (ltb 0 count && ltb numbers (tail + count)) 11 0))) ⌝ }
+{
+    refuse(
+        idle,
+        IDLE,
+        refuse(taken, HELD, no_room(slots, head, tail, count as u64, 0)),
+    )
+}
+
+// The step, `unfit` being the number of the rows that every step tests.
+pub fn stored(
+    state: Fields,
+    unfit: u64,
+    home: &[u64],
+    working: &mut [u64],
+    log: &mut [u64],
+    supply: u64,
+    thread: u64,
+    word: u64,
+    value: u64,
+) -> Made
+    requires { ⌜ unfit ≡ numberOf (commonRows (view state) (memory (now home) (now working) (now log))) ⌝ }
+    ensures { λ (r : Made). ⌜ shown r (now (home .entry)) (now (working .exit)) (now (log .exit))
+        ≡ stepped (store thread word value) supply (view state) (memory (now (home .entry)) (now (working .entry)) (now (log .entry))) ⌝ }
+{
+    let early = early_refusal(unfit, state.words, thread, word);
+    if early != 0 {
+        return refused(early, supply, state);
+    }
+    let at = word as usize;
+    let entry = Entry {
+        thread: thread as u8,
+        word: word as u16,
+        undo: working[at],
+        redo: value,
+    };
+    let idle = !state.opened[thread as usize];
+    let taken = held_by_another(&state.lines.holders, thread, entry.word);
+    let same = value == entry.undo;
+    let count = logs_first(&state.lines.states, state.undos.len, entry.word, same);
+    let late = late_refusal(idle, taken, count, state.slots, state.head, state.tail);
+    if late != 0 {
+        return refused(late, supply, state);
+    }
+    let left = append_undos(
+        log,
+        state.tail,
+        state.undos.len,
+        &state.undos.threads,
+        &state.undos.words,
+        &state.undos.undos,
+        &state.undos.redos,
+        count,
+        supply,
+    );
+    if supply < 3 * count as u64 {
+        return cut(working);
+    }
+    working[at] = value;
+    Made {
+        answer: DONE,
+        left: left,
+        state: next_state(state, entry, count),
+    }
+}

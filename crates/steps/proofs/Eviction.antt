@@ -100,7 +100,8 @@ module _ (s : Fields) (i : ℕ) (line : Line) (read : line ≡ lineAt (s .lines)
         ap₂ (λ (ls : List Line) (es : List Entry). withTail (s .tail + count) (withLines ls (withRedo es (view s))))
         (changes (s .words / 8) (omega arith))
         (entries-added grown narrow sizes more ∙ ap (λ (xs : List Entry). xs ++ evicted (view s) mem i) e)
-        ∙ ap (λ (k : ℕ). withTail (s .tail + k) (withLines lines (withRedo redos (view s)))) (sym (length-oldest redoRecord count (s .redos .len) (redoAt (s .redos)) h))
+        ∙ ap (λ (k : ℕ). withTail (s .tail + k) (withLines lines (withRedo redos (view s))))
+        (sym (length-oldest redoRecord count (s .redos .len) (redoAt (s .redos)) h))
 
 -- a buffer's length is the number of the entries that wait in it
 pub few-wait : (b : RedoBuffer) → length (redosWaiting b) ≤ 32 → b .len ≤ 32

@@ -22,7 +22,8 @@ use Rattle.steps.specs.View.{view}
 pub use Rattle.recovery.proofs.RecoverStep.{recover-any}
 
 -- the state after a recovery, by its parts
-pub fresh-view : (words slots tail : ℕ) (ls : Lines) (u : UndoBuffer) (r : RedoBuffer) → words ≤ 512 → ls ≡ freeLines → undosWaiting u ≡ [] → redosWaiting r ≡ []
+pub fresh-view : (words slots tail : ℕ) (ls : Lines) (u : UndoBuffer) (r : RedoBuffer)
+    → words ≤ 512 → ls ≡ freeLines → undosWaiting u ≡ [] → redosWaiting r ≡ []
     → view (record {
       lost = false;
       words = words;

@@ -67,7 +67,8 @@ returns c =
     let s = a .t1 in
     let mem = memory (a .home .now) (a .working .now) (a .log .now) in
     rw (c .refused .ensures)
-    (oldest-refused logRedo redoRecord 32 (s .redos .len) (redoAt (s .redos)) (a .supply) (view s) mem (redosLogged 1 (view s)) (plan s mem) (refused .refusal .result)
+    (oldest-refused logRedo redoRecord 32 (s .redos .len) (redoAt (s .redos)) (a .supply) (view s) mem (redosLogged 1 (view s)) (plan s mem)
+    (refused .refusal .result)
     (refused .refusal .ensures (records s) (count-oldest redoRecord (s .redos .len) (redoAt (s .redos)))) (c .before .if1 .taken) refl)
 
 append-redos-requires : tie.Need-append-redos-requires
@@ -92,7 +93,8 @@ returns-2 c =
     let mem = memory (a .home .now) (a .working .now) (a .log .now) in
     let e = appended .append-redos in
     let d = ended .cut in
-    oldest-cut logRedo redoRecord 32 (s .redos .len) (redoAt (s .redos)) (a .supply) (view s) mem (redosLogged 1 (view s)) (plan s mem) (known begun) (d .result) (d .last .0)
+    oldest-cut logRedo redoRecord 32 (s .redos .len) (redoAt (s .redos)) (a .supply) (view s) mem (redosLogged 1 (view s)) (plan s mem)
+    (known begun) (d .result) (d .last .0)
     (e .last .0) (e .result) (ended .before .before .if2 .taken) (redos-appended 1 (s .redos) (known begun .short) (e .ensures))
     (d .ensures .0) (d .ensures .1)
 
@@ -121,7 +123,8 @@ returns-3 c =
     let mem = memory (a .home .now) (a .working .now) (a .log .now) in
     let e = appended .append-redos in
     let k = known begun in
-    let rest : redosWaiting (dropped .result) ≡ drop 1 (redosWaiting (s .redos)) = rest-waits 32 1 (s .redos .len) (redoAt (s .redos)) (redosWaiting (dropped .result)) (k .short) (dropped .ensures) in
+    let rest : redosWaiting (dropped .result) ≡ drop 1 (redosWaiting (s .redos)) =
+    rest-waits 32 1 (s .redos .len) (redoAt (s .redos)) (redosWaiting (dropped .result)) (k .short) (dropped .ensures) in
     let next = oneLogged s (s .lines) (s .undos) (dropped .result) in
     let same : view next ≡ redosLogged 1 (view s) = rw (rest, k .one) in
     oldest-done logRedo redoRecord 32 (s .redos .len) (redoAt (s .redos)) (a .supply) (view s) mem (redosLogged 1 (view s)) (plan s mem) k

@@ -71,7 +71,8 @@ returns c =
     let s = a .t1 in
     let mem = memory (a .home .now) (a .working .now) (a .log .now) in
     rw (c .refused .ensures)
-    (oldest-refused logUndo undoRedoRecord 16 (s .undos .len) (undoAt (s .undos)) (a .supply) (view s) mem (undosLogged 1 (view s)) (plan s mem) (refused .refusal .result)
+    (oldest-refused logUndo undoRedoRecord 16 (s .undos .len) (undoAt (s .undos)) (a .supply) (view s) mem (undosLogged 1 (view s)) (plan s mem)
+    (refused .refusal .result)
     (refused .refusal .ensures (records s) (count-oldest undoRedoRecord (s .undos .len) (undoAt (s .undos)))) (c .before .if1 .taken) refl)
 
 append-undos-requires : tie.Need-append-undos-requires
@@ -96,7 +97,8 @@ returns-2 c =
     let mem = memory (a .home .now) (a .working .now) (a .log .now) in
     let e = appended .append-undos in
     let d = ended .cut in
-    oldest-cut logUndo undoRedoRecord 16 (s .undos .len) (undoAt (s .undos)) (a .supply) (view s) mem (undosLogged 1 (view s)) (plan s mem) (known begun) (d .result) (d .last .0)
+    oldest-cut logUndo undoRedoRecord 16 (s .undos .len) (undoAt (s .undos)) (a .supply) (view s) mem (undosLogged 1 (view s)) (plan s mem)
+    (known begun) (d .result) (d .last .0)
     (e .last .0) (e .result) (ended .before .before .if2 .taken) (undos-appended 1 (s .undos) (known begun .short) (e .ensures))
     (d .ensures .0) (d .ensures .1)
 
@@ -129,7 +131,8 @@ returns-3 c =
     let mem = memory (a .home .now) (a .working .now) (a .log .now) in
     let e = appended .append-undos in
     let k = known begun in
-    let rest : undosWaiting (dropped .result) ≡ drop 1 (undosWaiting (s .undos)) = rest-waits 16 1 (s .undos .len) (undoAt (s .undos)) (undosWaiting (dropped .result)) (k .short) (dropped .ensures) in
+    let rest : undosWaiting (dropped .result) ≡ drop 1 (undosWaiting (s .undos)) =
+    rest-waits 16 1 (s .undos .len) (undoAt (s .undos)) (undosWaiting (dropped .result)) (k .short) (dropped .ensures) in
     let n = s .words / 8 in
     let lines : firstLines n (marked .result) ≡ allLogged (take 1 (undosWaiting (s .undos))) (firstLines n (s .lines)) =
     marked .ensures n (omega (arith, k .narrow))

@@ -23,7 +23,8 @@ use Rattle.steps.specs.declared.Fields.{Fields}
 use Rattle.steps.specs.View.{view}
 use Rattle.line_walks.proofs.WordStates.{withStates, first-marked}
 use Rattle.steps.proofs.Filing.{logs-most, logs-none, none-logged, logs-room, undos-length, logged-limits, next-same, next-other}
-use Rattle.steps.proofs.Filing.{held-lines, dirty-lines, whole-dirty, WholeUndos, Ready, filed-first, filed-dirty, filed-logged, filed-last, discarded-none}
+use Rattle.steps.proofs.Filing.{held-lines, dirty-lines, whole-dirty, WholeUndos, Ready}
+use Rattle.steps.proofs.Filing.{filed-first, filed-dirty, filed-logged, filed-last, discarded-none}
 use Rattle.steps.proofs.storing.next_state.Statement.{statement}
 use Rattle.steps.proofs.storing.next_state.Tie as tie
 use Rattle.steps.proofs.storing.next_state.Lts as lts

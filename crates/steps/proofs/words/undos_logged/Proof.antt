@@ -28,7 +28,8 @@ returns c =
     let b = a .state .undos in
     let rest : undosWaiting (c .before .before .drop-oldest .result) ≡ drop (a .count) (undosWaiting b) =
     c .before .before .drop-oldest .ensures ∙ sym (changed-within 16 (b .len) (undosWaiting b) (drop (a .count) (undosWaiting b)) (omega arith)) in
-    let n : length (map undoRedoRecord (take (a .count) (undosWaiting b))) ≡ a .count = length-oldest undoRedoRecord (a .count) (b .len) (undoAt b) (omega arith) in
+    let n : length (map undoRedoRecord (take (a .count) (undosWaiting b))) ≡ a .count =
+    length-oldest undoRedoRecord (a .count) (b .len) (undoAt b) (omega arith) in
     let lines = c .before .all-logged .ensures (a .state .words / 8) (omega arith) in
     rw (rest, n, lines, oldest-all (a .count) b (omega arith))
 

@@ -2,7 +2,7 @@
 use Prim.Native.Nat.{ℕ}
 use mathlib.Core.List.{List}
 use Rattle.model.specs.Machine.{Memory}
-use Rattle.steps.specs.View.{memory}
+use Rattle.state.specs.View.{memory}
 use Rattle.runner.specs.Running.{Report}
 
 -- a run's report but for the state, which stays here: the answer, the three buffers, and the answer and the stores of each step

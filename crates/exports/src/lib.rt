@@ -1,6 +1,6 @@
 // The store for programs in other languages.
 ghost use mathlib.Core.Path.{_≡_};
-ghost use Rattle.steps.specs.View.{memory};
+ghost use Rattle.state.specs.View.{memory};
 ghost use Rattle.runner.specs.Running.{script, runOf};
 ghost use Rattle.exports.specs.Exported.{exported, exportOf};
 

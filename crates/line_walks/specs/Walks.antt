@@ -1,23 +1,23 @@
 -- What the walks over the lines, and over the words of a line, hand back on every input.
-use Prim.Native.Nat.{ℕ, _+_, _*_}
+use Prim.Native.Nat.{ℕ, _+_, _*_, _/_, _%_}
 use mathlib.Core.Bool.{Bool, cond, _&&_}
 use mathlib.Core.List.{List, [], _∷_, map}
 use lib.Dec.{eqb, leb, ltb}
-use lib.ListN.{length, getD, take}
+use lib.ListN.{length, getD, set}
 use Rattle.log.specs.Stores.{Store}
 use Rattle.parts.specs.declared.Entry.{Entry}
-use Rattle.parts.specs.declared.UndoBuffer.{UndoBuffer}
 use Rattle.parts.specs.declared.Line.{Line}
 use Rattle.parts.specs.declared.Lines.{Lines}
 use Rattle.parts.specs.Lines.{lineAt}
-use Rattle.parts.specs.States.{stateAt, ULog}
-use Rattle.parts.specs.Waiting.{undosWaiting, added}
+use Rattle.parts.specs.States.{stateAt, withState, URLog, ULog}
+use Rattle.parts.specs.Waiting.{added}
 use Rattle.model.specs.Lists.{keep, upTo}
 use Rattle.model.specs.Steps.{lineWrites, released}
 
--- the k oldest undo+redo entries, or as many as wait; a buffer whose length is over 16, which none has that was built here, gives none
-unfoldable pub oldest : ℕ → UndoBuffer → List Entry
-oldest k b = cond (leb (b .len) 16) (take k (undosWaiting b)) []
+-- the states of all lines with these words URLog, one after the other
+unfoldable pub allMarked : List ℕ → List ℕ → List ℕ
+allMarked [] ss = ss
+allMarked (w ∷ ws) ss = allMarked ws (set ss (w / 8) (withState (getD ss (w / 8) 0) (w % 8) URLog))
 
 -- word j of a line is ULog
 abbrev pub isULog : Line → ℕ → Bool

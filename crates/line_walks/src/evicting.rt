@@ -1,14 +1,11 @@
-// "Set down a line": its ULog words add redo entries, and all its words become Clean.
+// "Set down a line": its ULog words add redo entries.
 ghost use mathlib.Core.Path.{_≡_};
 ghost use mathlib.Core.Bool.{_&&_};
-ghost use Prim.Native.Nat.{ℕ, _+_, _≤_};
+ghost use Prim.Native.Nat.{_+_};
 ghost use lib.Dec.{leb, ltb};
-ghost use Rattle.parts.specs.Lines.{firstLines};
 ghost use Rattle.parts.specs.Waiting.{redosWaiting};
-ghost use Rattle.model.specs.Machine.{statesAs, changed};
 ghost use Rattle.line_walks.specs.Walks.{isULog, ulogEntries, addedAll};
 use parts::Line;
-use parts::Lines;
 use parts::RedoBuffer;
 
 // The eight words from `first` on are there, among at most 512.
@@ -51,19 +48,4 @@ pub fn add_ulog(buffer: RedoBuffer, line: Line, working: &[u64], first: usize) -
         j += 1;
     }
     grown
-}
-
-// The lines with the words of one of them all Clean.
-pub fn clean(lines: Lines, line: usize) -> Lines
-    ensures { λ (r : Lines). ⌜ ((n : ℕ) → n ≤ 64 → firstLines n r ≡ changed (statesAs 0) line (firstLines n lines)) ⌝ }
-{
-    let old = lines.line(line);
-    lines.put(
-        line,
-        Line {
-            holder: old.holder,
-            dirty: old.dirty,
-            states: 0,
-        },
-    )
 }

@@ -8,13 +8,11 @@ mod releasing;
 mod writing_back;
 
 pub use evicting::add_ulog;
-pub use evicting::clean;
-pub use marking::all_logged;
 pub use marking::mark;
+pub use marking::mark_logged;
 pub use releasing::release;
 pub use writing_back::has_dirty;
 pub use writing_back::store_line;
-pub use writing_back::written;
 
 fn least(a: usize, b: usize) -> usize
     ensures { λ r. ⌜ r ≡ min a b ⌝ }

@@ -1,14 +1,10 @@
 // The states of words replaced: "its word becomes URLog, as it does whenever such an entry is logged".
 ghost use mathlib.Core.Path.{_≡_};
-ghost use Prim.Native.Nat.{ℕ, _/_, _%_, _≤_};
-ghost use lib.ListN.{length, getD, set};
-ghost use Rattle.parts.specs.Lines.{firstLines};
+ghost use Prim.Native.Nat.{_/_, _%_};
+ghost use lib.ListN.{length, getD, set, take};
 ghost use Rattle.parts.specs.States.{withState};
-ghost use Rattle.model.specs.Machine.{allLogged};
-ghost use Rattle.line_walks.specs.Walks.{oldest};
+ghost use Rattle.line_walks.specs.Walks.{allMarked};
 use crate::least;
-use parts::Lines;
-use parts::UndoBuffer;
 
 // The state of a word replaced, in the states of all 64 lines. There are four states; a word past the last line has none.
 pub fn mark(states: &mut [u16; 64], word: u16, state: u64)
@@ -21,19 +17,15 @@ pub fn mark(states: &mut [u16; 64], word: u16, state: u64)
     }
 }
 
-// The lines after the `count` oldest undo+redo entries are logged: their words become URLog.
-pub fn all_logged(lines: Lines, entries: UndoBuffer, count: usize) -> Lines
-    ensures { λ (r : Lines). ⌜ ((n : ℕ) → n ≤ 64 → firstLines n r ≡ allLogged (oldest count entries) (firstLines n lines)) ⌝ }
+// The words of the `count` oldest undo+redo entries become URLog, in the states of all 64 lines; `words` are those of the entries.
+pub fn mark_logged(states: &mut [u16; 64], words: &[u16; 16], count: usize)
+    ensures { λ _. ⌜ (length (now (states .entry)) ≡ 64 → length (now (words .entry)) ≡ 16 → now (states .exit)
+        ≡ allMarked (take count (now (words .entry))) (now (states .entry))) ⌝ }
 {
-    if 16 < entries.len {
-        return lines;
-    }
-    let end = least(count, entries.len);
-    let mut marked = lines;
+    let end = least(count, 16);
     let mut i = 0;
     while i < end {
-        mark(&mut marked.states, entries.words[i], 2);
+        mark(states, words[i], 2);
         i += 1;
     }
-    marked
 }

@@ -1,17 +1,12 @@
-// "Write home a line": its eight working words are stored, and the dirty flag is cleared. No word of it may be Dirty.
+// "Write home a line": its eight working words are stored. No word of it may be Dirty.
 ghost use mathlib.Core.Path.{_≡_};
-ghost use mathlib.Core.Bool.{false};
-ghost use Prim.Native.Nat.{ℕ, _-_, _≤_};
+ghost use Prim.Native.Nat.{_-_};
 ghost use lib.Dec.{eqb};
 ghost use lib.ListN.{length};
 ghost use Rattle.log.specs.Stores.{storedUnder};
-ghost use Rattle.parts.specs.Lines.{firstLines};
 ghost use Rattle.parts.specs.States.{stateAt, Dirty};
 ghost use Rattle.model.specs.Lists.{any, upTo};
-ghost use Rattle.model.specs.Machine.{dirtyAs, changed};
 ghost use Rattle.line_walks.specs.Walks.{lineStores};
-use parts::Line;
-use parts::Lines;
 
 // A word of the line is Dirty, by the line's states.
 pub fn has_dirty(states: u16) -> bool
@@ -42,19 +37,4 @@ pub fn store_line(home: &mut [u64], working: &[u64], line: usize, supply: u64) -
         j += 1;
     }
     left
-}
-
-// The lines with one of them dirty no more.
-pub fn written(lines: Lines, line: usize) -> Lines
-    ensures { λ (r : Lines). ⌜ ((n : ℕ) → n ≤ 64 → firstLines n r ≡ changed (dirtyAs false) line (firstLines n lines)) ⌝ }
-{
-    let old = lines.line(line);
-    lines.put(
-        line,
-        Line {
-            holder: old.holder,
-            dirty: false,
-            states: old.states,
-        },
-    )
 }

@@ -1,7 +1,7 @@
 -- Document 01, "The log record": the three words of a slot, and what reading them back gives.
 -- A header's bits, 0 lowest: 0 to 47 word number; 48 to 55 thread; 56 and 57 type; 58 torn bit; 59 to 63 zero.
 use Prim.Native.Nat.{ℕ, zero, suc, _+_, _-_, _*_, _/_, _%_, _^_}
-use mathlib.Core.Bool.{Bool, true, false, cond, _&&_, not}
+use mathlib.Core.Bool.{Bool, true, false, cond, _&&_}
 use mathlib.Core.List.{List, [], _∷_}
 use lib.Dec.{eqb, ltb}
 use lib.ListN.{length, getD}

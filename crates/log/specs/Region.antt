@@ -1,13 +1,13 @@
 -- Document 01, "The three word buffers", the log: its slots, its head, and the records that it keeps.
 -- A region whose length is not 1+3L, L from 8 to 1,024, has no slots: nothing is stored in it or read from it.
 use Prim.Native.Nat.{ℕ, zero, suc, _+_, _-_, _*_, _/_, _%_, _^_}
-use mathlib.Core.Bool.{Bool, true, false, cond, _&&_, not}
+use mathlib.Core.Bool.{Bool, cond, _&&_}
 use mathlib.Core.List.{List, [], _∷_, _++_}
 use lib.Dec.{eqb, ltb, leb}
 use lib.ListN.{length, getD, take, drop}
 use Rattle.log.specs.declared.Record.{Record}
 use Rattle.log.specs.declared.Reading.{Reading}
-use Rattle.log.specs.declared.Reading.the-variants.{Good, Bad}
+use Rattle.log.specs.declared.Reading.the-variants.{Bad}
 use Rattle.log.specs.Stores.{Store, shifted}
 use Rattle.log.specs.Layout.{tornBit, tornIn, slotStores, decodedSlot}
 

@@ -1,6 +1,6 @@
 // The region: its slots, its head, and the records between head and tail.
 ghost use mathlib.Core.Path.{_≡_};
-ghost use Prim.Native.Nat.{ℕ, _-_, _<_};
+ghost use Prim.Native.Nat.{_-_, _<_};
 ghost use lib.ListN.{length};
 ghost use Rattle.log.specs.Stores.{storedUnder};
 ghost use Rattle.log.specs.Layout.{tornBit};

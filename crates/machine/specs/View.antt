@@ -3,8 +3,8 @@ use Prim.Native.Nat.{ℕ}
 use mathlib.Core.List.{List}
 use Rattle.model.specs.Machine.{Machine}
 use Rattle.model.specs.Plan.{Outcome}
-use Rattle.steps.specs.View.{memory}
-use Rattle.steps.specs.View as steps
+use Rattle.state.specs.View.{memory}
+use Rattle.state.specs.View as steps
 use Rattle.machine.specs.declared.State.{State}
 use Rattle.machine.specs.declared.Answer.{Answer}
 

@@ -4,11 +4,11 @@ ghost use mathlib.Core.List.{[]};
 ghost use Rattle.model.specs.Machine.{lostMachine};
 ghost use Rattle.model.specs.Step.{begin, store, logUndo, logRedo, evict, writeBack, commit, deleteOldest, recover, stepped};
 ghost use Rattle.steps.specs.Steps.{stepOf};
-ghost use Rattle.steps.specs.View.{memory};
+ghost use Rattle.state.specs.View.{memory};
 ghost use Rattle.machine.specs.View.{view, shown};
 use crate::Answer;
 use crate::State;
-use steps::Made;
+use state::Made;
 use steps::Step;
 
 // What a step made, with the state around its fields.
@@ -29,7 +29,7 @@ impl State {
         ensures { λ (r : State). ⌜ view r ≡ lostMachine ⌝ }
     {
         State {
-            fields: steps::lost(),
+            fields: state::lost(),
         }
     }
 
@@ -53,8 +53,10 @@ impl State {
     pub fn begin(self, thread: u64) -> Answer
         ensures { λ (r : Answer). ⌜ shown r [] [] [] ≡ stepped (begin thread) 0 (view self) (memory [] [] []) ⌝ }
     {
-        let fields = self.fields;
-        answer(steps::begin(fields, thread))
+        let mut home = [0; 0];
+        let mut working = [0; 0];
+        let mut log = [0; 0];
+        self.step(Step::Begin { thread }, &mut home, &mut working, &mut log, 0)
     }
 
     // The value becomes the working one, under a claim of the line.
@@ -173,6 +175,6 @@ impl State {
         ensures { λ (r : Answer). ⌜ shown r (now (home .exit)) (now (working .exit)) (now (log .exit))
             ≡ stepped recover supply lostMachine (memory (now (home .entry)) (now (working .entry)) (now (log .entry))) ⌝ }
     {
-        answer(steps::recover(home, working, log, supply))
+        answer(recovery::recover(home, working, log, supply))
     }
 }

@@ -10,7 +10,6 @@ use lib.Dec.{eqb, leb}
 use lib.ListN.{length, getD, take, drop, set, replicate, length-replicate}
 use lib.Seq.{take-nil}
 use Rattle.log.specs.declared.Record.{Record}
-use Rattle.log.specs.declared.Reading.{Reading}
 use Rattle.log.specs.declared.Reading.the-variants.{Good}
 use Rattle.log.specs.Stores.{Store}
 use Rattle.log.specs.Region.{slotsOf, readBack, readFrom, headStores}
@@ -23,11 +22,11 @@ use Rattle.model.specs.Machine.{Machine, Memory, withHead, withTail, wit
 use Rattle.model.specs.Machine.{isOpen, stateIn, heldBy, dirtyAs, statesAs, changed}
 use Rattle.model.specs.Consistent.{isWidth, consistent}
 use Rattle.model.specs.Plan.{Put, append, writeHome, setHead, putsOf, performed}
-use Rattle.model.specs.Refusals.{lost, inconsistent, busy, held, pending, nothing, damaged, needed, row}
+use Rattle.model.specs.Refusals.{lost, inconsistent, busy, held, pending, nothing, row}
 use Rattle.model.specs.Refusals.{common, unknownThread, unknownWord, unknownLine, notOpen, isPending, noRoom}
 use Rattle.model.specs.Steps.{undoRecords, redoRecords, undosLogged, redosLogged, beginPlan, storeLogs, storedAs, storeNext}
 use Rattle.model.specs.Steps.{heldByAnother, storePlan, logUndoPlan, logRedoPlan, evicted, lacking, evictPlan, lineWrites}
-use Rattle.model.specs.Steps.{writeBackPlan, commitRecords, released, commitPlan, isBad, isNeeded, deletePlan}
+use Rattle.model.specs.Steps.{writeBackPlan, commitRecords, released, commitPlan, isNeeded, deleteRows, deletePlan}
 use Rattle.model.specs.Step.{Step, begin, store, logUndo, logRedo, evict, writeBack, commit, deleteOldest, planOf, stepped}
 use Rattle.model.specs.Book.{Book, entered, noted}
 use Rattle.model.proofs.Lists.{both-left}
@@ -307,11 +306,8 @@ module _ {l : ℕ} (c : ℕ) (m : Machine) (mem : Memory) (b : Book) (ready : Re
   pub delete-ready : After deleteOldest
   unfolding planOf deletePlan entered
   delete-ready =
-      let oldest : Reading = readBack (m .words) (mem .log) (m .head) in
-      let later : List Reading = readFrom (m .tail - (m .head + 1)) (m .words) (mem .log) (m .head + 1) in
       guarded deleteOldest c m mem b
-      (common m mem ++
-      (row (eqb (m .head) (m .tail)) nothing ∷ row (isBad oldest) damaged ∷ row (isNeeded m oldest later) needed ∷ []))
+      (common m mem ++ deleteRows m mem)
       (setHead (m .head + 1) ∷ [])
       (withHead (m .head + 1) m)
       (mem .working)

@@ -1,7 +1,7 @@
 -- A line is set down (evicted).
-use Prim.Native.Nat.{ℕ, zero, suc, _+_, _-_, _*_, _/_, _%_, _<_, _≤_}
+use Prim.Native.Nat.{ℕ, suc, _+_, _-_, _*_, _/_, _%_, _<_, _≤_}
 use mathlib.Core.Path.{_≡_, refl, sym, ap, _∙_}
-use mathlib.Core.Bool.{Bool, true, false, cond, _||_}
+use mathlib.Core.Bool.{Bool, true, false, cond}
 use mathlib.Core.List.{List, [], _∷_, _++_, map, append-nil}
 use mathlib.Core.Logic.{inl, inr}
 use mathlib.Core.Option.{Option}
@@ -17,7 +17,6 @@ use Rattle.log.specs.Holding.{Every}
 use Rattle.log.proofs.Holding.{every-at, every-append}
 use Rattle.parts.specs.declared.Entry.{Entry}
 use Rattle.parts.specs.declared.Line.{Line}
-use Rattle.parts.specs.Listed.{listed}
 use Rattle.parts.specs.Lines.{freeLine}
 use Rattle.parts.specs.States.{stateAt, Clean, Dirty, ULog}
 use Rattle.parts.proofs.Listed.{length-listed, getD-listed}

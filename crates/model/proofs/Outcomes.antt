@@ -1,10 +1,10 @@
 -- What a step hands back, by the number under which it is refused and by its stores: what the code of each step computes.
 use Prim.Native.Nat.{ℕ, _+_, _-_, _≤_, _<_}
-use mathlib.Core.Path.{_≡_, refl, sym, _∙_, ap, subst}
+use mathlib.Core.Path.{_≡_, refl, sym, _∙_, ap}
 use mathlib.Core.Bool.{Bool, true, false}
 use mathlib.Core.List.{List, [], _∷_, _++_}
 use native.Mathlib.Omega.{arith}
-use lib.ListN.{length, take, replicate}
+use lib.ListN.{length, replicate}
 use lib.Seq.{take-all}
 use Rattle.log.specs.Stores.{Store}
 use Rattle.log.specs.Region.{slotsOf}
@@ -15,6 +15,11 @@ use Rattle.model.specs.Refusals.{Row, unless, numberOf}
 use Rattle.model.specs.Step.{Step, planOf, taken, stepped}
 use Rattle.model.proofs.Performing.{puts, length-puts, partly, performed-all, performed-cut, partly-written}
 use Rattle.model.proofs.Steps.{stepped-refused, stepped-planned}
+
+-- two outcomes are equal, if their parts are
+pub outcome-eq : (o p : Outcome) → o .answer ≡ p .answer → o .left ≡ p .left → o .machine ≡ p .machine
+    → o .memory .home ≡ p .memory .home → o .memory .working ≡ p .memory .working → o .memory .log ≡ p .memory .log → o ≡ p
+outcome-eq o p a l m h w g = λ i. record { answer = a i; left = l i; machine = m i; memory = record { home = h i; working = w i; log = g i } }
 
 -- where no row is met by its number, none applies
 pub none-apply : (rows : List Row) → Every (λ r. 0 < r .number) rows → numberOf rows ≡ 0 → Every (λ r. r .applies ≡ false) rows

@@ -1,7 +1,7 @@
 -- The invariant of a world: its machine is live, or lost with a log from which recovery brings the committed values home.
-use Prim.Native.Nat.{ℕ, _+_, _≤_, _<_}
+use Prim.Native.Nat.{ℕ, _+_}
 use mathlib.Core.Path.{_≡_, sym, _∙_, subst}
-use mathlib.Core.Bool.{Bool, true, false}
+use mathlib.Core.Bool.{true, false}
 use mathlib.Core.List.{List}
 use lib.ListN.{length}
 use Rattle.log.specs.declared.Record.{Record}
@@ -10,7 +10,6 @@ use Rattle.model.specs.Machine.{Machine, Memory}
 use Rattle.model.specs.Consistent.{isWidth}
 use Rattle.model.specs.Plan.{Outcome}
 use Rattle.model.specs.Book.{Book}
-use Rattle.model.specs.Run.{World}
 use Rattle.model.proofs.Core.{CoreOf, Safe, core-safe}
 
 -- What recovery needs of the buffers: l slots that hold the records rs from head on, and home words that are safe with them.

@@ -1,6 +1,6 @@
 -- Document 01, "The account book": what a reader of the steps and their answers expects to find at home.
 -- Its "settled values" are called committed here, and its lists of pairs pending.
-use Prim.Native.Nat.{ℕ, zero, suc}
+use Prim.Native.Nat.{ℕ}
 use mathlib.Core.Bool.{cond}
 use mathlib.Core.List.{List, [], _∷_, _++_}
 use lib.Dec.{eqb}

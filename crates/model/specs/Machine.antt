@@ -1,12 +1,11 @@
 -- Document 01, "The state", and the three buffers beside it.
 use Prim.Native.Nat.{ℕ, _+_, _-_, _*_, _/_, _%_}
-use mathlib.Core.Bool.{Bool, true, false, cond}
-use mathlib.Core.List.{List, [], _∷_, _++_, map}
-use lib.Dec.{eqb}
-use lib.ListN.{length, getD, take, drop, set, replicate}
+use mathlib.Core.Bool.{Bool, true, false}
+use mathlib.Core.List.{List, [], _∷_}
+use lib.ListN.{getD, set, replicate}
 use Rattle.parts.specs.declared.Entry.{Entry}
 use Rattle.parts.specs.declared.Line.{Line}
-use Rattle.parts.specs.Lines.{nobody, freeLine}
+use Rattle.parts.specs.Lines.{freeLine}
 use Rattle.parts.specs.States.{stateAt, withState, URLog}
 use Rattle.parts.specs.Listed.{listed}
 

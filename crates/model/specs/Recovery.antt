@@ -12,7 +12,7 @@ use Rattle.log.specs.Stores.{Store, stored}
 use Rattle.log.specs.Region.{numbers, slotsOf, headOf, tailOf, recordsOf}
 use Rattle.model.specs.Lists.{any}
 use Rattle.model.specs.Machine.{Memory, freshMachine}
-use Rattle.model.specs.Plan.{Op, writeHome, setHead, Plan, planned}
+use Rattle.model.specs.Plan.{writeHome, setHead, Plan, planned}
 use Rattle.model.specs.Refusals.{size, headTooHigh, damaged, row, unless, wrongLengths}
 use Rattle.model.specs.Steps.{isBad}
 

@@ -1,14 +1,14 @@
 -- Document 01, "Benches to try": P1 to P11 as a table of worked scenarios, each with all that the paper says of it; after them a scenario for
 -- each entry of "Plausible, and wrong" and for the edges of the supply, the free slots and a delete.
 use Prim.Native.Nat.{ℕ, _+_, _-_, _*_, _^_}
-use mathlib.Core.Bool.{Bool, true, false, _&&_}
+use mathlib.Core.Bool.{Bool, true, _&&_}
 use mathlib.Core.List.{List, [], _∷_, _++_}
 use lib.Dec.{eqb}
-use lib.ListN.{length, getD, replicate}
+use lib.ListN.{getD, replicate}
 use Rattle.log.specs.Stores.{Store}
 use Rattle.model.specs.Lists.{all}
-use Rattle.model.specs.Machine.{Memory, lostMachine}
-use Rattle.model.specs.Step.{Step, begin, store, logUndo, logRedo, evict, writeBack, commit, deleteOldest, recover}
+use Rattle.model.specs.Machine.{lostMachine}
+use Rattle.model.specs.Step.{Step, begin, store, logUndo, evict, writeBack, commit, deleteOldest, recover}
 use Rattle.model.specs.Book.{openedBook}
 use Rattle.model.specs.Run.{World, Timed, outcome, after}
 

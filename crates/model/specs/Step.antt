@@ -1,6 +1,5 @@
 -- A step of the machine as one of nine, and what it hands back.
 use Prim.Native.Nat.{ℕ}
-use mathlib.Core.List.{List}
 use Rattle.model.specs.Machine.{Machine, Memory, lostMachine}
 use Rattle.model.specs.Plan.{Plan, Outcome, carriedOut}
 use Rattle.model.specs.Steps.{beginPlan, storePlan, logUndoPlan, logRedoPlan, evictPlan, writeBackPlan, commitPlan, deletePlan}

@@ -2,7 +2,7 @@
 use Prim.Native.Nat.{ℕ, zero, suc, _+_, _-_, _/_}
 use mathlib.Core.Bool.{Bool, true, false, cond, _&&_, _||_, not}
 use mathlib.Core.List.{List, [], _∷_, _++_, map}
-use lib.Dec.{eqb, ltb, leb}
+use lib.Dec.{eqb, leb}
 use lib.ListN.{length, getD, take, drop, set}
 use Rattle.log.specs.declared.Record.{Record}
 use Rattle.log.specs.declared.Record.the-variants.{UndoRedo, Redo, Commit}
@@ -13,14 +13,14 @@ use Rattle.log.specs.Region.{readBack, readFrom}
 use Rattle.parts.specs.declared.Entry.{Entry}
 use Rattle.parts.specs.declared.Line.{Line}
 use Rattle.parts.specs.Lines.{nobody}
-use Rattle.parts.specs.States.{Clean, Dirty, URLog, ULog}
+use Rattle.parts.specs.States.{Clean, Dirty, ULog}
 use Rattle.parts.specs.Waiting.{discarded, amended}
 use Rattle.model.specs.Lists.{keep, any, upTo, isEmpty}
 use Rattle.model.specs.Machine.{Machine, Memory, withHead, withTail, withOpened, withLines, withUndoRedo, withRedo, isOpen, wordsOf}
 use Rattle.model.specs.Machine.{lineOf, stateIn, holderIn, dirtyIn, heldBy, dirtyAs, statesAs, changed, marked, allLogged}
 use Rattle.model.specs.Consistent.{consistent}
-use Rattle.model.specs.Plan.{Op, append, writeHome, setHead, Plan, planned}
-use Rattle.model.specs.Refusals.{lost, inconsistent, busy, held, pending, nothing, damaged, needed, row, unless, common}
+use Rattle.model.specs.Plan.{append, writeHome, setHead, Plan, planned}
+use Rattle.model.specs.Refusals.{lost, inconsistent, busy, held, pending, nothing, damaged, needed, Row, row, unless, common}
 use Rattle.model.specs.Refusals.{unknownThread, unknownWord, unknownLine, notOpen, isPending, noRoom}
 
 -- the records of waiting entries
@@ -183,12 +183,15 @@ isNeeded m (Good (Redo t w r)) later = not (any (isCommitOf t) later) || dirtyIn
 isNeeded m (Good (Commit t)) later = false
 isNeeded m Bad later = false
 
+-- the rows of a delete after the common ones
+abbrev pub deleteRows : Machine → Memory → List Row
+deleteRows m mem =
+    let oldest = readBack (m .words) (mem .log) (m .head) in
+    let later = readFrom (m .tail - (m .head + 1)) (m .words) (mem .log) (m .head + 1) in
+    row (eqb (m .head) (m .tail)) nothing ∷ row (isBad oldest) damaged ∷ row (isNeeded m oldest later) needed ∷ []
+
 -- "Delete: one store, the head plus one."
 unfoldable pub deletePlan : Machine → Memory → Plan
 deletePlan m mem =
-    let oldest = readBack (m .words) (mem .log) (m .head) in
-    let later = readFrom (m .tail - (m .head + 1)) (m .words) (mem .log) (m .head + 1) in
-    unless
-    (common m mem ++
-    (row (eqb (m .head) (m .tail)) nothing ∷ row (isBad oldest) damaged ∷ row (isNeeded m oldest later) needed ∷ []))
+    unless (common m mem ++ deleteRows m mem)
     (planned (setHead (m .head + 1) ∷ []) (withHead (m .head + 1) m) (mem .working))

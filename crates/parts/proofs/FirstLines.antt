@@ -3,11 +3,10 @@ use Prim.Native.Nat.{ℕ, _≤_, _<_}
 use mathlib.Core.Path.{_≡_, refl, sym, _∙_}
 use mathlib.Core.Bool.{false}
 use native.Mathlib.Omega.{arith}
-use lib.ListN.{length, set, replicate, length-set, getD-replicate, List·getD-eq-default}
-use lib.Seq.{getD-set-same, getD-set-other, set-out}
+use lib.ListN.{length, set, replicate, length-set, getD-replicate}
+use lib.Seq.{getD-set-same, getD-set-other}
 use Rattle.parts.specs.declared.Line.{Line}
 use Rattle.parts.specs.declared.Lines.{Lines}
-use Rattle.parts.specs.Listed.{listed}
 use Rattle.parts.specs.Lines.{nobody, lineAt, firstLines, freeLine, freeLines, putLine}
 use Rattle.parts.proofs.Listed.{set-listed, replicate-listed, listed-ext}
 
@@ -26,20 +25,6 @@ pub line-same : (ls : Lines) (i : ℕ) (l : Line) → WholeLines ls → i < 64 �
 line-same ls i l w h =
     line-eq (lineAt (putLine ls i l) i) l (getD-set-same (ls .holders) i (l .holder) 0 (omega arith))
     (getD-set-same (ls .dirty) i (l .dirty) false (omega arith)) (getD-set-same (ls .states) i (l .states) 0 (omega arith))
-
--- past the last place there is a line of zeros
-pub line-past : (ls : Lines) (i : ℕ) → WholeLines ls → 64 ≤ i → record { holder = 0; dirty = false; states = 0 } ≡ lineAt ls i
-line-past ls i w h =
-    line-eq (record { holder = 0; dirty = false; states = 0 }) (lineAt ls i) (sym (List·getD-eq-default (ls .holders) 0 (omega arith)))
-    (sym (List·getD-eq-default (ls .dirty) false (omega arith))) (sym (List·getD-eq-default (ls .states) 0 (omega arith)))
-
--- and no line is put there
-pub put-past : (ls : Lines) (i : ℕ) (l : Line) → WholeLines ls → 64 ≤ i → ls ≡ putLine ls i l
-put-past ls i l w h =
-    let a : length (ls .holders) ≤ i = omega arith in
-    let b : length (ls .dirty) ≤ i = omega arith in
-    let d : length (ls .states) ≤ i = omega arith in
-    simp set-out
 
 -- the other lines remain
 pub line-other : (ls : Lines) (i k : ℕ) (l : Line) → (k ≡ i → ⊥) → lineAt (putLine ls i l) k ≡ lineAt ls k

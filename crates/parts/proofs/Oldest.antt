@@ -1,11 +1,12 @@
 -- The oldest entries of a buffer, as of any list by its elements: how many there are, and one more of them.
-use Prim.Native.Nat.{ℕ, _+_, _≤_, _<_}
+use Prim.Native.Nat.{ℕ, _+_, _≤_, _<_, min}
 use mathlib.Core.Path.{_≡_, ap, _∙_}
-use mathlib.Core.List.{[], _∷_, _++_, map}
+use mathlib.Core.List.{List, [], _∷_, _++_, map}
 use native.Mathlib.Numerals.{add-one}
+use native.Mathlib.Decide.{decLt}
 use native.Mathlib.Omega.{arith}
 use lib.ListN.{length, take, length-map}
-use lib.Seq.{length-take-le, take-suc}
+use lib.Seq.{length-take-le, take-all, take-suc}
 use Rattle.parts.specs.Listed.{listed}
 use Rattle.parts.proofs.Listed.{length-listed, getD-listed}
 
@@ -23,3 +24,11 @@ module _ {A : Type 0} where
       ap (λ (k : ℕ). take k (listed n f)) (add-one i)
       ∙ take-suc (listed n f) i (f i) (omega arith)
       ∙ ap (λ (x : A). take i (listed n f) ++ (x ∷ [])) (getD-listed n f i (f i) h)
+
+  -- no more are taken than there are
+  pub take-least : (i k : ℕ) (xs : List A) → i ≡ min k (length xs) → take i xs ≡ take k xs
+  take-least i k xs e =
+      elim (decLt k (length xs)) [
+        | yes p ↦ let same : i ≡ k = omega arith in rw same
+        | no q ↦ rw (take-all i xs (omega arith), take-all k xs (omega arith))
+      ]

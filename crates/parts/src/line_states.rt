@@ -1,11 +1,10 @@
 // The lines, and the two-bit states of a line's words.
-use crate::Line;
 use crate::Lines;
 ghost use mathlib.Core.Path.{_≡_};
 ghost use mathlib.Core.Bool.{cond, _&&_};
 ghost use lib.Dec.{ltb};
 ghost use Rattle.parts.specs.States.{stateAt, withState};
-ghost use Rattle.parts.specs.Lines.{lineAt, freeLines, putLine};
+ghost use Rattle.parts.specs.Lines.{freeLines};
 
 // The state of word j of a line.
 pub fn state_at(states: u16, j: u64) -> u64
@@ -40,36 +39,5 @@ impl Lines {
             dirty: [false; 64],
             states: [0; 64],
         }
-    }
-
-    // A line; past the last place a line of zeros.
-    pub fn line(self, i: usize) -> Line
-        ensures { λ (r : Line). ⌜ r ≡ lineAt self i ⌝ }
-    {
-        if i < 64 {
-            Line {
-                holder: self.holders[i],
-                dirty: self.dirty[i],
-                states: self.states[i],
-            }
-        } else {
-            Line {
-                holder: 0,
-                dirty: false,
-                states: 0,
-            }
-        }
-    }
-
-    // A line replaced. Past the last place nothing is.
-    pub fn put(mut self, i: usize, line: Line) -> Lines
-        ensures { λ (r : Lines). ⌜ r ≡ putLine self i line ⌝ }
-    {
-        if i < 64 {
-            self.holders[i] = line.holder;
-            self.dirty[i] = line.dirty;
-            self.states[i] = line.states;
-        }
-        self
     }
 }

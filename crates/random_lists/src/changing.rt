@@ -8,12 +8,11 @@ use crate::numbers::one_of;
 use crate::numbers::rest;
 use crate::numbers::sum;
 use crate::setup::Plan;
-use parts::Line;
 use parts::Lines;
 use parts::RedoBuffer;
 use parts::UndoBuffer;
 use parts::with_state;
-use steps::Fields;
+use state::Fields;
 
 // A number below 2^16
 fn short(n: u64) -> u16 {
@@ -49,27 +48,18 @@ fn limits(mut state: Fields, case: u64, a: u64) -> Fields {
     state
 }
 
-// The cases 18 to 21, of a line and its word j
-fn line(mut line: Line, case: u64, j: u64, b: u64) -> Line {
-    match case {
-        18 => line.holder = byte(one_of(b, 8, 9, 254, 255)),
-        19 => line.holder = byte(b % 8),
-        20 => line.states = with_state(line.states, j, b % 4),
-        _ => line.dirty = !line.dirty,
-    }
-    line
-}
-
 // The cases 18 to 21, of word w
 fn lines(mut state: Fields, case: u64, w: u64, b: u64) -> Fields {
-    if (case < 18) | (case > 21) {
-        return state;
-    }
-    let lines = state.lines;
+    let mut lines = state.lines;
     let at = (w / 8 % 64) as usize;
-    let changed = line(lines.line(at), case, w % 8, b);
-    let next = lines.put(at, changed);
-    state.lines = next;
+    match case {
+        18 => lines.holders[at] = byte(one_of(b, 8, 9, 254, 255)),
+        19 => lines.holders[at] = byte(b % 8),
+        20 => lines.states[at] = with_state(lines.states[at], w % 8, b % 4),
+        21 => lines.dirty[at] = !lines.dirty[at],
+        _ => {}
+    }
+    state.lines = lines;
     state
 }
 

@@ -105,7 +105,7 @@ impl Run {
     }
 
     // "C. Kind of this step (k)." `none` is above 12.
-    pub fn turned(mut self, x: u64, plan: Plan, forced: bool, case: u64) -> Run {
+    pub(crate) fn turned(mut self, x: u64, plan: Plan, forced: bool, case: u64) -> Run {
         let recovers = draw_if(case <= 12, x, 2, 1);
         self.x = recovers.x;
         if forced | (recovers.r == 0) {
@@ -121,7 +121,7 @@ impl Run {
     }
 
     // "D. What the step is given."
-    pub fn given(mut self, plan: Plan) -> Run {
+    pub(crate) fn given(mut self, plan: Plan) -> Run {
         let for_t = raw(self.x);
         let for_p = raw(for_t);
         let for_v = raw(for_p);

@@ -14,10 +14,10 @@ use crate::setup::Plan;
 use crate::tables::DELETE;
 use crate::tables::RECOVER;
 use crate::tables::SET_DOWN;
-use steps::CUT;
-use steps::DAMAGED;
-use steps::DONE;
-use steps::HEAD;
+use state::CUT;
+use state::DAMAGED;
+use state::DONE;
+use state::HEAD;
 
 // "case = none"
 const NONE: u64 = 30;
@@ -67,7 +67,7 @@ fn put_back(log: &mut [u64], t: Trouble) {
 
 impl Trouble {
     // "A. Forced." and "B. Disturbance.", without the changes. No x is used up where nothing may be drawn.
-    pub fn next(mut self, plan: Plan, kind: u64) -> Trouble {
+    pub(crate) fn next(mut self, plan: Plan, kind: u64) -> Trouble {
         let forced = self.mend == 1;
         let no_line = (plan.profile == 6) & (kind != SET_DOWN);
         let no_record = (plan.profile == 7) & (kind != DELETE);
@@ -140,7 +140,7 @@ impl Trouble {
     }
 
     // The changes of the log: "one log word i from old to new". `head` and `tail` are those of the state.
-    pub fn patched(self, log: &mut [u64], l: u64, head: u64, tail: u64) -> Trouble {
+    pub(crate) fn patched(self, log: &mut [u64], l: u64, head: u64, tail: u64) -> Trouble {
         let mut next = self.mended(log);
         if (next.case < 5) | (next.case > 12) {
             return next;
@@ -160,7 +160,7 @@ impl Trouble {
     }
 
     // "F. Afterwards."
-    pub fn after(mut self, x: u64, k: u64, answer: u64) -> Trouble {
+    pub(crate) fn after(mut self, x: u64, k: u64, answer: u64) -> Trouble {
         let damaged = (answer == HEAD) | (answer == DAMAGED);
         let strayed = (k == RECOVER) & ((answer != DONE) | (self.case <= 4));
         let breaks = (self.mend == 0) & ((answer == CUT) | strayed);

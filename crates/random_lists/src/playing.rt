@@ -18,7 +18,7 @@ use crate::setup::planned;
 use crate::tables::RECOVER;
 use machine::Answer;
 use machine::State;
-use steps::CUT;
+use state::CUT;
 
 // The digest of the lists so far, their steps, and how often each answer was given, 255 at 16
 pub struct Score {

@@ -1,50 +1,84 @@
 -- The numbers under which a delete is refused, by the rows of the log itself.
-use Prim.Native.Nat.{ℕ, _+_, _-_, _≤_}
-use mathlib.Core.Path.{_≡_, sym, _∙_, ap, ap₂}
-use mathlib.Core.Bool.{Bool, cond}
+use Prim.Native.Nat.{ℕ, _+_, _-_, _/_, _≤_}
+use mathlib.Core.Path.{_≡_, sym, _∙_, ap}
+use mathlib.Core.Bool.{Bool, false, cond, _&&_}
 use mathlib.Core.List.{List}
+use native.Mathlib.Decide.{decLt}
 use native.Mathlib.Omega.{arith}
-use borrow.Author.Tests.{eq-eqb, ne-eqb}
+use borrow.Author.Tests.{lt-ltb, le-ltb, eq-eqb, ne-eqb}
+use lib.Dec.{ltb}
+use lib.ListN.{length, getD, List·getD-eq-default}
 use Rattle.log.specs.declared.Record.{Record}
 use Rattle.log.specs.declared.Reading.{Reading}
 use Rattle.log.specs.declared.Reading.the-variants.{Good}
 use Rattle.log.specs.Region.{readBack, readFrom}
 use Rattle.log.proofs.Searching.{read-none}
+use Rattle.parts.specs.declared.Line.{Line}
+use Rattle.parts.specs.declared.Lines.{Lines}
+use Rattle.parts.specs.Lines.{lineAt, firstLines, freeLine}
+use Rattle.parts.proofs.Listed.{length-listed}
+use Rattle.model.specs.Machine.{Machine, Memory, lineOf, dirtyIn}
 use Rattle.model.specs.Refusals.{numberOf}
-use Rattle.model.specs.Steps.{isBad}
-use Rattle.recovery.specs.Deleting.{neededBy, refusalRows}
+use Rattle.model.specs.Steps.{isBad, isNeeded, deleteRows}
+use Rattle.model.proofs.LinesInUse.{line-in-use}
+use Rattle.state.specs.declared.Fields.{Fields}
+use Rattle.state.specs.View.{view}
+
+-- past the last flag there is none
+flag-at : (flags : List Bool) (i : ℕ) → cond (ltb i (length flags)) (getD flags i false) false ≡ getD flags i false
+flag-at flags i =
+    elim (decLt i (length flags)) [
+      | yes p ↦ rw (lt-ltb i (length flags) p)
+      | no q ↦ rw (le-ltb i (length flags) (omega arith)) (sym (List·getD-eq-default flags false (omega arith)))
+    ]
+
+-- and past the lines in use
+flag-of : (n : ℕ) (ls : Lines) (i : ℕ)
+    → cond (ltb i n && ltb i (length (ls .dirty))) (getD (ls .dirty) i false) false ≡ lineOf (firstLines n ls) i .dirty
+flag-of n ls i =
+    let size : length (firstLines n ls) ≡ n = length-listed n (lineAt ls) in
+    elim (decLt i n) [
+      | yes p ↦ rw (lt-ltb i n p) (flag-at (ls .dirty) i ∙ ap (λ (l : Line). l .dirty) (line-in-use n ls i p))
+      | no q ↦
+          rw (le-ltb i n (omega arith))
+          (sym (ap (λ (l : Line). l .dirty) (List·getD-eq-default (firstLines n ls) freeLine {n = i} (omega arith))))
+    ]
+
+-- the dirty flag of a word's line, by the array of the flags
+pub word-flag : (s : Fields) (words w : ℕ) (flags : List Bool) (b : Bool) → s .words ≡ words → s .lines .dirty ≡ flags
+    → (ltb (w / 8) (words / 8) && ltb (w / 8) (length flags)) ≡ b → cond b (getD flags (w / 8) false) false ≡ dirtyIn (view s .lines) w
+unfolding dirtyIn
+word-flag s words w flags b e f t = rw (← t, ← e, ← f) (flag-of (s .words / 8) (s .lines) (w / 8))
 
 -- whether a record is needed, by what was read
-pub needed-read : (dirty : List Bool) (later : List Reading) (x : Reading) (r s : Record) (b : Bool) → x ≡ Good r → r ≡ s
-    → b ≡ neededBy dirty (Good s) later → b ≡ neededBy dirty x later
-needed-read dirty later x r s b e f g = g ∙ sym (ap (λ (y : Reading). neededBy dirty y later) (e ∙ ap Good f))
+pub needed-read : (m : Machine) (later : List Reading) (x : Reading) (r s : Record) (b : Bool) → x ≡ Good r → r ≡ s
+    → b ≡ isNeeded m (Good s) later → b ≡ isNeeded m x later
+needed-read m later x r s b e f g = g ∙ sym (ap (λ (y : Reading). isNeeded m y later) (e ∙ ap Good f))
 
 module _ (head tail words : ℕ) (log : List ℕ) where
-  -- the records after the oldest, the number of the first of them being its own plus one or, where there are none, the tail
-  pub later-next : (from : ℕ) → from ≡ head + 1
-      → readFrom (tail - from) words log from ≡ readFrom (tail - (head + 1)) words log (head + 1)
+  -- the records after the oldest
+  abbrev pub later : List Reading
+  later = readFrom (tail - (head + 1)) words log (head + 1)
+
+  -- the number of the first of them is the oldest's plus one or, where there are none, the tail
+  pub later-next : (from : ℕ) → from ≡ head + 1 → readFrom (tail - from) words log from ≡ later
   later-next from e = ap (λ (n : ℕ). readFrom (tail - n) words log n) e
 
-  pub later-none : (from : ℕ) → tail ≤ head → from ≡ tail
-      → readFrom (tail - from) words log from ≡ readFrom (tail - (head + 1)) words log (head + 1)
+  pub later-none : (from : ℕ) → tail ≤ head → from ≡ tail → readFrom (tail - from) words log from ≡ later
   later-none from h e = read-none words log from tail (omega arith) ∙ sym (read-none words log (head + 1) tail (omega arith))
 
-  module _ (dirty : List Bool) where
-    -- whether the oldest is needed, by what was read and searched
-    pub needed-oldest : (x : Reading) (from : ℕ) (b : Bool) → x ≡ readBack words log head
-        → readFrom (tail - from) words log from ≡ readFrom (tail - (head + 1)) words log (head + 1)
-        → b ≡ neededBy dirty x (readFrom (tail - from) words log from)
-        → neededBy dirty (readBack words log head) (readFrom (tail - (head + 1)) words log (head + 1)) ≡ b
-    needed-oldest x from b e f g = sym (g ∙ ap₂ (neededBy dirty) e f)
-
+  -- A state and buffers that have these.
+  module _ (s : Fields) (mem : Memory) (h : s .head ≡ head) (t : s .tail ≡ tail) (w : s .words ≡ words) (g : mem .log ≡ log) where
     -- an empty log
-    pub refused-nothing : head ≡ tail → 12 ≡ numberOf (refusalRows head tail words dirty log)
+    pub refused-nothing : head ≡ tail → 12 ≡ numberOf (deleteRows (view s) mem)
     unfolding numberOf
-    refused-nothing e = rw (eq-eqb head tail e)
+    refused-nothing e = rw (eq-eqb (s .head) (s .tail) (h ∙ e ∙ sym t))
 
     -- the oldest record
-    pub refused-oldest : (head ≡ tail → ⊥) → (a b : Bool) → isBad (readBack words log head) ≡ a
-        → neededBy dirty (readBack words log head) (readFrom (tail - (head + 1)) words log (head + 1)) ≡ b
-        → cond a 14 (cond b 15 0) ≡ numberOf (refusalRows head tail words dirty log)
+    pub refused-oldest : (head ≡ tail → ⊥) → (a b : Bool) → isBad (readBack words log head) ≡ a → isNeeded (view s) (readBack words log head) later ≡ b
+        → cond a 14 (cond b 15 0) ≡ numberOf (deleteRows (view s) mem)
     unfolding numberOf
-    refused-oldest ne a b e f = rw (ne-eqb head tail ne, e, f)
+    refused-oldest ne a b e f =
+        let first : readBack (s .words) (mem .log) (s .head) ≡ readBack words log head = rw (h, w, g) in
+        let rest : readFrom (s .tail - (s .head + 1)) (s .words) (mem .log) (s .head + 1) ≡ later = rw (h, t, w, g) in
+        rw (ne-eqb (s .head) (s .tail) (λ z. ne (sym h ∙ z ∙ t)), first, rest, e, f)

@@ -1,12 +1,11 @@
--- A recovery by its parts: the numbers under which it is refused, its stores, and what it hands back. No state before it is of account.
-use Prim.Native.Nat.{ℕ, _+_, _-_, _%_, _≤_, _<_}
-use mathlib.Core.Path.{_≡_, refl, sym, _∙_, ap, ap₂, subst}
+-- A recovery by its parts: the numbers under which it is refused, its stores, and the state that follows. No state before it is of account.
+use Prim.Native.Nat.{ℕ, _+_, _-_, _/_, _%_, _≤_, _<_}
+use mathlib.Core.Path.{_≡_, refl, sym, _∙_, ap, ap₂}
 use mathlib.Core.Bool.{Bool, true, false, cond, _&&_, _||_, not}
 use mathlib.Core.List.{List, [], _∷_, _++_, map}
 use native.Mathlib.Numerals.{add-one}
-use native.Mathlib.Decide.{decLt}
 use native.Mathlib.Omega.{arith}
-use borrow.Author.Tests.{leb-true, eqb-true, eqb-false, ne-eqb, not-false}
+use borrow.Author.Tests.{leb-true, eqb-true, eqb-false, not-false}
 use lib.Dec.{eqb, ltb, leb}
 use lib.ListN.{length, getD, set, take, replicate}
 use lib.Seq.{take-all, take-suc, take-suc-set}
@@ -16,6 +15,12 @@ use Rattle.log.specs.Holding.{Every}
 use Rattle.log.proofs.Stored.{under-none}
 use Rattle.log.proofs.Sizes.{sized}
 use Rattle.log.proofs.Holding.{size-of-head}
+use Rattle.parts.specs.declared.RedoBuffer.{RedoBuffer}
+use Rattle.parts.specs.declared.UndoBuffer.{UndoBuffer}
+use Rattle.parts.specs.declared.Lines.{Lines}
+use Rattle.parts.specs.Waiting.{undosWaiting, redosWaiting}
+use Rattle.parts.specs.Lines.{freeLine, freeLines, firstLines}
+use Rattle.parts.proofs.FirstLines.{first-free}
 use Rattle.model.specs.Lists.{any}
 use Rattle.model.specs.Consistent.{isWidth}
 use Rattle.model.specs.Machine.{Machine, Memory, lostMachine, freshMachine}
@@ -27,11 +32,11 @@ use Rattle.model.specs.Step.{recover, planOf, stepped}
 use Rattle.model.proofs.Lists.{both-left, both-right}
 use Rattle.model.proofs.Records.{both-fail}
 use Rattle.model.proofs.Performing.{puts, puts-home, puts-head, partly}
-use Rattle.model.proofs.Outcomes.{none-apply, number-first, number-then, outcome-refused, outcome-done, outcome-cut}
-use Rattle.recovery.specs.declared.Recovered.{Recovered}
+use Rattle.model.proofs.Outcomes.{outcome-eq, none-apply, number-first, number-then, outcome-refused, outcome-done, outcome-cut}
+use Rattle.state.specs.View.{view}
 use Rattle.recovery.specs.declared.replaying.Replayed.{Replayed}
 use Rattle.recovery.specs.Replaying.{replayStores, replayed}
-use Rattle.recovery.specs.Outcome.{numbersOf, recoveredOf, machineOf, endedAs, unreadableRows}
+use Rattle.recovery.specs.Recovering.{unreadableRows}
 
 -- one more word copied, and all of them
 pub copied-more : (i : ℕ) (xs ys : List ℕ) → length xs ≡ length ys → i < length ys → take i xs ≡ take i ys
@@ -43,9 +48,35 @@ copied-more i xs ys same h e =
 pub copied-all : (i : ℕ) (xs ys : List ℕ) → length xs ≡ length ys → length ys ≤ i → take i xs ≡ take i ys → xs ≡ ys
 copied-all i xs ys same h e = sym (take-all i xs (omega arith)) ∙ e ∙ take-all i ys h
 
--- two memories are equal, if their buffers are
-memory-eq : (m n : Memory) → m .home ≡ n .home → m .working ≡ n .working → m .log ≡ n .log → m ≡ n
-memory-eq m n h w g = λ i. record { home = h i; working = w i; log = g i }
+-- the state after a recovery, by its parts
+pub fresh-view : (words slots tail : ℕ) (ls : Lines) (u : UndoBuffer) (r : RedoBuffer)
+    → words ≤ 512 → ls ≡ freeLines → undosWaiting u ≡ [] → redosWaiting r ≡ []
+    → view (record {
+      lost = false;
+      words = words;
+      slots = slots;
+      head = tail;
+      tail = tail;
+      opened = replicate 8 false;
+      lines = ls;
+      undos = u;
+      redos = r;
+    })
+    ≡ freshMachine words slots tail
+fresh-view words slots tail ls u r h l e f =
+    let lines : firstLines (words / 8) ls ≡ replicate (words / 8) freeLine = ap (firstLines (words / 8)) l ∙ first-free (words / 8) (omega arith) in
+    λ i.
+    record {
+      lost = false;
+      words = words;
+      slots = slots;
+      head = tail;
+      tail = tail;
+      opened = replicate 8 false;
+      lines = lines i;
+      undoRedo = e i;
+      redo = f i;
+    }
 
 -- the buffers are of lengths that a recovery takes
 pub record Readable (mem : Memory) : Type 0 where
@@ -129,23 +160,19 @@ module _ (mem : Memory) where
     one : length lastStore ≡ 1
     one = size-of-head (slotsOf (mem .log)) (tailOf (mem .log)) (fits-unread .some)
 
-  -- What the code hands back and leaves, by what the step comes to.
-  module _ (c : ℕ) (r : Recovered) (after : Memory) where
-    as-outcome : (o : Outcome) → stepped recover c lostMachine mem ≡ o → r ≡ numbersOf o → after ≡ o .memory
-        → (r ≡ recoveredOf c mem) × (after ≡ stepped recover c lostMachine mem .memory)
-    as-outcome o e f g = (f ∙ ap numbersOf (sym e), g ∙ ap (λ (x : Outcome). x .memory) (sym e))
-
+  -- What the code hands back and leaves is what the step comes to.
+  module _ (c : ℕ) (o : Outcome) where
     -- refused: all is as it was
-    pub recover-refused : (n : ℕ) → n ≡ numberOf recoverRows → (n ≡ 0 → ⊥) → r ≡ endedAs n c → after ≡ mem
-        → (r ≡ recoveredOf c mem) × (after ≡ stepped recover c lostMachine mem .memory)
-    recover-refused n e some f g =
-        as-outcome (record { answer = n; left = c; machine = lostMachine; memory = mem })
-        (outcome-refused recover c lostMachine mem recoverRows ops fresh (stored (mem .home) homeStores) (plan lostMachine) n (sym e) some refl)
-        f g
+    pub recover-refused : (n : ℕ) → n ≡ numberOf recoverRows → (n ≡ 0 → ⊥)
+        → (o .answer ≡ n) × ((o .left ≡ c) × (o .machine ≡ lostMachine))
+        → o .memory .home ≡ mem .home → o .memory .working ≡ mem .working → o .memory .log ≡ mem .log → o ≡ stepped recover c lostMachine mem
+    recover-refused n e some f h w g =
+        outcome-eq o (record { answer = n; left = c; machine = lostMachine; memory = mem }) (f .0) (f .1 .0) (f .1 .1) h w g
+        ∙ sym (outcome-refused recover c lostMachine mem recoverRows ops fresh (stored (mem .home) homeStores) (plan lostMachine) n (sym e) some refl)
 
     -- The log is read, and replayed.
     module _ (zero : 0 ≡ numberOf (unreadableRows mem)) (d : Replayed) (out : d ≡ replayed (length (mem .home)) c (mem .log))
-        (home : after .home ≡ storedUnder c (mem .home) (replayStores (length (mem .home)) (mem .log))) where
+        (home : o .memory .home ≡ storedUnder c (mem .home) (replayStores (length (mem .home)) (mem .log))) where
       bad : d .bad ≡ any isBad (recordsOf (length (mem .home)) (mem .log))
       bad = ap (λ (x : Replayed). x .bad) out
 
@@ -153,13 +180,13 @@ module _ (mem : Memory) where
       tail = ap (λ (x : Replayed). x .tail) out
 
       -- damaged: nothing is stored
-      pub recover-damaged : d .bad ≡ true → r ≡ endedAs 14 c → after .working ≡ mem .working → after .log ≡ mem .log
-          → (r ≡ recoveredOf c mem) × (after ≡ stepped recover c lostMachine mem .memory)
+      pub recover-damaged : d .bad ≡ true → (o .answer ≡ 14) × ((o .left ≡ c) × (o .machine ≡ lostMachine))
+          → o .memory .working ≡ mem .working → o .memory .log ≡ mem .log → o ≡ stepped recover c lostMachine mem
       recover-damaged e f w g =
           let none = under-none c (mem .home) (replayStores (length (mem .home)) (mem .log)) (rw (← bad, e)) in
-          recover-refused 14 (refused-damaged zero (sym e ∙ bad)) (λ z. omega arith) f (memory-eq after mem (home ∙ sym (none .1)) w g)
+          recover-refused 14 (refused-damaged zero (sym e ∙ bad)) (λ z. omega arith) f (home ∙ sym (none .1)) w g
 
-      module _ (good : d .bad ≡ false) (log : after .log ≡ storedUnder (d .left) (mem .log) (headStores (slotsOf (mem .log)) (d .tail))) where
+      module _ (good : d .bad ≡ false) (log : o .memory .log ≡ storedUnder (d .left) (mem .log) (headStores (slotsOf (mem .log)) (d .tail))) where
         none-bad : Every (λ r. r .applies ≡ false) recoverRows
         none-bad = allowed zero (sym good ∙ bad)
 
@@ -169,80 +196,41 @@ module _ (mem : Memory) where
         less : d .left ≡ c - length homeStores
         less = ap (λ (x : Replayed). x .left) out ∙ ap (λ (ss : List Store). c - length ss) all-stores
 
-        home-same : after .home ≡ storedUnder c (mem .home) homeStores
+        home-same : o .memory .home ≡ storedUnder c (mem .home) homeStores
         home-same = home ∙ ap (storedUnder c (mem .home)) all-stores
 
-        log-same : after .log ≡ stored (mem .log) (take (c - length homeStores) lastStore)
+        log-same : o .memory .log ≡ stored (mem .log) (take (c - length homeStores) lastStore)
         log-same = log ∙ ap₂ (λ (n k : ℕ). storedUnder n (mem .log) (headStores (slotsOf (mem .log)) k)) less tail
 
         -- cut: not all stores are made
-        pub recover-cut : d .left ≡ 0 → r ≡ endedAs 255 0 → after .working ≡ replicate (length (mem .working)) 0
-            → (r ≡ recoveredOf c mem) × (after ≡ stepped recover c lostMachine mem .memory)
+        pub recover-cut : d .left ≡ 0 → (o .answer ≡ 255) × ((o .left ≡ 0) × (o .machine ≡ lostMachine))
+            → o .memory .working ≡ replicate (length (mem .working)) 0 → o ≡ stepped recover c lostMachine mem
         recover-cut none f w =
             let e = one zero in
             let h = less in
             let left = partly mem c homeStores lastStore (replicate (length (mem .working)) 0) in
-            as-outcome (record { answer = 255; left = 0; machine = lostMachine; memory = left })
-            (outcome-cut recover c lostMachine mem recoverRows ops fresh (stored (mem .home) homeStores) (plan lostMachine) homeStores lastStore
+            outcome-eq o (record { answer = 255; left = 0; machine = lostMachine; memory = left }) (f .0) (f .1 .0) (f .1 .1) home-same w log-same
+            ∙ sym (outcome-cut recover c lostMachine mem recoverRows ops fresh (stored (mem .home) homeStores) (plan lostMachine) homeStores lastStore
             none-bad (made 0) (omega arith))
-            f
-            (memory-eq after left home-same w log-same)
 
-        -- done: working becomes home, and the numbers are those of the fresh state
-        pub recover-done : (rest slots : ℕ) → slots ≡ slotsOf (mem .log) → (d .left ≡ 0 → ⊥)
-            → rest ≡ d .left - length (headStores (slotsOf (mem .log)) (d .tail))
-            → r ≡ record { answer = 0; left = rest; words = length (mem .home); slots = slots; tail = d .tail }
-            → after .working ≡ after .home → (r ≡ recoveredOf c mem) × (after ≡ stepped recover c lostMachine mem .memory)
+        -- done: working becomes home, and the state is fresh
+        pub recover-done : (d .left ≡ 0 → ⊥) → (slots : ℕ) → slots ≡ slotsOf (mem .log)
+            → o .answer ≡ 0 → o .left ≡ d .left - length (headStores (slotsOf (mem .log)) (d .tail))
+            → o .machine ≡ freshMachine (length (mem .home)) slots (d .tail)
+            → o .memory .working ≡ o .memory .home → o ≡ stepped recover c lostMachine mem
         unfolding fresh
-        recover-done rest slots size some l f w =
+        recover-done some slots size a l m w =
             let e = one zero in
             let h = less in
             let head : length (headStores (slotsOf (mem .log)) (d .tail)) ≡ length lastStore =
             ap (λ (k : ℕ). length (headStores (slotsOf (mem .log)) k)) tail in
-            let count : rest ≡ c - (length homeStores + length lastStore) = omega arith in
+            let count : o .left ≡ c - (length homeStores + length lastStore) = omega arith in
             let all : storedUnder c (mem .home) homeStores ≡ stored (mem .home) homeStores = ap (stored (mem .home)) (take-all c homeStores (omega arith)) in
             let left = partly mem c homeStores lastStore (stored (mem .home) homeStores) in
-            as-outcome (record { answer = 0; left = c - (length homeStores + length lastStore); machine = fresh; memory = left })
-            (outcome-done recover c lostMachine mem recoverRows ops fresh (stored (mem .home) homeStores) (plan lostMachine) homeStores lastStore
+            outcome-eq o (record { answer = 0; left = c - (length homeStores + length lastStore); machine = fresh; memory = left })
+            a count (m ∙ ap₂ (freshMachine (length (mem .home))) size tail) home-same (w ∙ home-same ∙ all) log-same
+            ∙ sym (outcome-done recover c lostMachine mem recoverRows ops fresh (stored (mem .home) homeStores) (plan lostMachine) homeStores lastStore
             none-bad (made 0) (omega arith))
-            (f ∙ (λ i. record { answer = 0; left = count i; words = length (mem .home); slots = size i; tail = tail i }))
-            (memory-eq after left home-same (w ∙ home-same ∙ all) log-same)
-
-  -- What the numbers of a recovery tell: the state after it, whose words are at most 512.
-  abbrev Tells : Outcome → Type 0
-  Tells o = (o .machine ≡ machineOf (numbersOf o)) × (o .machine .words ≤ 512)
-
-  tells : (c : ℕ) → Tells (stepped recover c lostMachine mem)
-  unfolding fresh
-  tells c =
-      elim (decLt 0 (numberOf recoverRows)) [
-        | yes p ↦
-            subst Tells
-            (sym (outcome-refused recover c lostMachine mem recoverRows ops fresh (stored (mem .home) homeStores) (plan lostMachine) (numberOf recoverRows)
-            refl (λ z. omega arith) refl))
-            (rw (ne-eqb (numberOf recoverRows) 0 (λ z. omega arith)), omega arith)
-        | no q ↦
-            let none = none-apply recoverRows (omega arith, (omega arith, (omega arith, tt))) (omega arith) in
-            elim (decLt c (length homeStores + length lastStore)) [
-              | yes p ↦
-                  subst Tells
-                  (sym (outcome-cut recover c lostMachine mem recoverRows ops fresh (stored (mem .home) homeStores) (plan lostMachine) homeStores lastStore
-                  none (made 0) p))
-                  (refl, omega arith)
-              | no h ↦
-                  subst Tells
-                  (sym (outcome-done recover c lostMachine mem recoverRows ops fresh (stored (mem .home) homeStores) (plan lostMachine) homeStores lastStore
-                  none (made 0) (omega arith)))
-                  (refl, readable mem (none .0) .width)
-            ]
-      ]
-
-  -- the state after a recovery, by what it hands back
-  pub recovered-machine : (c : ℕ) → stepped recover c lostMachine mem .machine ≡ machineOf (recoveredOf c mem)
-  recovered-machine c = tells c .0
-
-  pub recovered-words : (c : ℕ) → recoveredOf c mem .words ≤ 512
-  recovered-words c = tells c .1
 
 -- a plan under rows, carried out after a record of one number or another, if its stores are the same
 carried-any : (c : ℕ) (m : Machine) (mem : Memory) (n k : ℕ) (ops : List Op) (next : Machine) (working : List ℕ)

@@ -1,5 +1,3 @@
--- What a recovery comes to, what its reading and its passes compute, and when a delete is refused.
-pub mod Outcome
+-- What a recovery's reading and its passes compute.
 pub mod Replaying
 pub mod Recovering
-pub mod Deleting

@@ -1,4 +1,5 @@
--- A replay as its code goes: one reading of the log, then a pass forward and a pass backward over the records read.
+-- A recovery as its code goes: the refusals before the log is read, one reading of the log, then a pass forward and a pass backward
+-- over the records read.
 use Prim.Native.Nat.{ℕ, _+_, _-_, _≤_, _<_}
 use mathlib.Core.Path.{_≡_}
 use mathlib.Core.Bool.{Bool, cond}
@@ -12,12 +13,18 @@ use Rattle.log.specs.declared.Reading.the-variants.{Good, Bad}
 use Rattle.log.specs.Stores.{Store}
 use Rattle.log.specs.Layout.{threadOf}
 use Rattle.log.specs.Holding.{Valid}
-use Rattle.log.specs.Region.{headOf, tailOf, readFrom, recordsOf}
+use Rattle.log.specs.Region.{numbers, headOf, tailOf, readFrom, recordsOf}
 use Rattle.model.specs.Lists.{any}
+use Rattle.model.specs.Machine.{Memory}
+use Rattle.model.specs.Refusals.{Row, row, size, headTooHigh, wrongLengths}
 use Rattle.model.specs.Steps.{isBad}
 use Rattle.model.specs.Recovery.{closed, records}
 use Rattle.recovery.specs.declared.reading.Found.{Found}
 use Rattle.recovery.specs.declared.passes.Write.{Write}
+
+-- the rows of a recovery before the log is read
+abbrev pub unreadableRows : Memory → List Row
+unreadableRows mem = row (wrongLengths mem) size ∷ row (ltb numbers (headOf (mem .log))) headTooHigh ∷ []
 
 -- a record read back that is not bad has a thread and a word of the machine
 abbrev pub ValidIf : ℕ → Reading → Type 0

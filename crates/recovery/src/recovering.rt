@@ -1,26 +1,25 @@
 // "Recover: takes no state": home is brought to the committed values by the log, and all else follows home and the log's tail.
 ghost use mathlib.Core.Path.{_≡_};
+ghost use Prim.Native.Nat.{_≤_};
 ghost use lib.ListN.{length};
-ghost use Rattle.model.specs.Machine.{lostMachine};
+ghost use Rattle.model.specs.Machine.{lostMachine, freshMachine};
 ghost use Rattle.model.specs.Refusals.{numberOf};
 ghost use Rattle.model.specs.Step.{recover as recoverStep, stepped};
-ghost use Rattle.recovery.specs.Outcome.{memory, unreadableRows, endedAs, recoveredOf};
-use crate::Recovered;
-use crate::buffers::clear;
-use crate::buffers::wrong_lengths;
+ghost use Rattle.state.specs.View.{view, memory, shown};
+ghost use Rattle.recovery.specs.Recovering.{unreadableRows};
 use crate::replaying::replay;
-
-// "0 (done)" and "255 (cut)"
-const DONE: u64 = 0;
-
-const CUT: u64 = 255;
-
-// The refusals, by document 01's numbers.
-const SIZE: u64 = 1;
-
-const HEAD: u64 = 13;
-
-const DAMAGED: u64 = 14;
+use parts::Lines;
+use parts::RedoBuffer;
+use parts::UndoBuffer;
+use state::DAMAGED;
+use state::DONE;
+use state::Fields;
+use state::HEAD;
+use state::Made;
+use state::SIZE;
+use state::cut;
+use state::lost;
+use state::wrong_lengths;
 
 // The words of one buffer become those of the other.
 fn copy(to: &mut [u64], from: &[u64])
@@ -47,46 +46,58 @@ fn unreadable(home: &[u64], working: &[u64], log: &[u64]) -> u64
     0
 }
 
-// What a recovery that is not done hands back.
-fn ended(answer: u64, left: u64) -> Recovered
-    ensures { λ (r : Recovered). ⌜ r ≡ endedAs answer left ⌝ }
+// "a refused recover hands back a dark state"
+fn refused(number: u64, supply: u64) -> Made
+    ensures { λ (r : Made). ⌜ (r .answer ≡ number) × ((r .left ≡ supply) × (view (r .state) ≡ lostMachine)) ⌝ }
 {
-    Recovered {
-        answer: answer,
-        left: left,
-        words: 0,
-        slots: 0,
-        tail: 0,
+    Made {
+        answer: number,
+        left: supply,
+        state: lost(),
     }
 }
 
-// A recovery: refused, cut or done. Unless it is done, the numbers of the state are 0.
-pub fn recover(home: &mut [u64], working: &mut [u64], log: &mut [u64], supply: u64) -> Recovered
-    ensures { λ (r : Recovered). ⌜ r ≡ recoveredOf supply (memory (now (home .entry)) (now (working .entry)) (now (log .entry))) ⌝ }
-    ensures { λ (r : Recovered). ⌜ memory (now (home .exit)) (now (working .exit)) (now (log .exit))
-        ≡ stepped recoverStep supply lostMachine (memory (now (home .entry)) (now (working .entry)) (now (log .entry))) .memory ⌝ }
+// "the new state has empty buffers, all Clean, unheld, not dirty, no transaction"
+fn fresh_state(words: u16, slots: u16, tail: u64) -> Fields
+    requires { ⌜ words ≤ 512 ⌝ }
+    ensures { λ (r : Fields). ⌜ view r ≡ freshMachine words slots tail ⌝ }
+{
+    Fields {
+        lost: false,
+        words: words,
+        slots: slots,
+        head: tail,
+        tail: tail,
+        opened: [false; 8],
+        lines: Lines::free(),
+        undos: UndoBuffer::empty(),
+        redos: RedoBuffer::empty(),
+    }
+}
+
+// A recovery: refused, cut or done. It takes no state.
+pub fn recover(home: &mut [u64], working: &mut [u64], log: &mut [u64], supply: u64) -> Made
+    ensures { λ (r : Made). ⌜ shown r (now (home .exit)) (now (working .exit)) (now (log .exit))
+        ≡ stepped recoverStep supply lostMachine (memory (now (home .entry)) (now (working .entry)) (now (log .entry))) ⌝ }
 {
     let number = unreadable(home, working, log);
     if number != 0 {
-        return ended(number, supply);
+        return refused(number, supply);
     }
     let words = home.len() as u16;
     let slots = log::slots(log) as u16;
     let replayed = replay(home, log, words, supply);
     if replayed.bad {
-        return ended(DAMAGED, supply);
+        return refused(DAMAGED, supply);
     }
-    let rest = log::set_head(log, replayed.tail, replayed.left);
+    let left = log::set_head(log, replayed.tail, replayed.left);
     if replayed.left == 0 {
-        clear(working);
-        return ended(CUT, 0);
+        return cut(working);
     }
     copy(working, home);
-    Recovered {
+    Made {
         answer: DONE,
-        left: rest,
-        words: words,
-        slots: slots,
-        tail: replayed.tail,
+        left: left,
+        state: fresh_state(words, slots, replayed.tail),
     }
 }

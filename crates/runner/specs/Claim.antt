@@ -7,7 +7,7 @@ use Rattle.model.specs.Machine.{Memory, lostMachine}
 use Rattle.model.specs.Plan.{done, cut}
 use Rattle.model.specs.Step.{recover}
 use Rattle.model.specs.Run.{Timed, start, Sized, HomeCommitted, ran, answersOf}
-use Rattle.steps.specs.View.{memory}
+use Rattle.state.specs.View.{memory}
 use Rattle.runner.specs.Running.{Script, stepsOf, Report, atFirst, runOf}
 
 -- a list of steps that begins with a recovery under c and ends with one under d

@@ -2,13 +2,13 @@
 ghost use Prim.Native.Nat.{_<_};
 ghost use mathlib.Core.Path.{_≡_};
 ghost use lib.ListN.{length};
-ghost use Rattle.steps.specs.View.{memory};
+ghost use Rattle.state.specs.View.{memory};
 ghost use Rattle.steps.specs.Steps.{stepOf};
 ghost use Rattle.runner.specs.Running.{script, numbered, stepAt, knownKinds, runnable, reported, runOf};
 use crate::Ran;
 use machine::State;
-use steps::DONE;
-use steps::SIZE;
+use state::DONE;
+use state::SIZE;
 use steps::Step;
 
 // A step by the number of its kind, from 0 for begin to 8 for recover.

@@ -129,7 +129,7 @@ impl Bench {
     }
 
     // A command as often as it says, and what is expected of it.
-    pub fn does(self, c: Command) -> Bench {
+    pub(crate) fn does(self, c: Command) -> Bench {
         let mut done = self;
         let mut i = 0;
         while i < c.times {

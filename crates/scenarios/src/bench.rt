@@ -88,7 +88,7 @@ impl Bench {
     }
 
     // One step under a supply, not noted yet.
-    pub fn tries(mut self, supply: u64, step: Step) -> Bench {
+    pub(crate) fn tries(mut self, supply: u64, step: Step) -> Bench {
         let state = self.state;
         let mut home = self.home;
         let mut working = self.working;
@@ -111,7 +111,7 @@ impl Bench {
     }
 
     // What came out since the last note, and the answer and the stores that are expected.
-    pub fn notes(mut self, answer: u64, stores: u64) -> Bench {
+    pub(crate) fn notes(mut self, answer: u64, stores: u64) -> Bench {
         let n = self.count;
         if n < STEPS {
             self.answers[n] = self.answer;
@@ -128,7 +128,7 @@ impl Bench {
     }
 
     // At the end a slot is expected to have these words.
-    pub fn expects_slot(mut self, slot: u64, undo: u64, redo: u64, header: u64) -> Bench {
+    pub(crate) fn expects_slot(mut self, slot: u64, undo: u64, redo: u64, header: u64) -> Bench {
         let n = self.shows;
         if n < SHOWN {
             self.slots[n] = least(slot, 80);

@@ -4,7 +4,7 @@ use crate::command::AMPLE;
 use crate::lists::least;
 use crate::lists::within;
 use machine::State;
-use steps::Fields;
+use state::Fields;
 
 // A number as one of 16 bits, at most 65535.
 fn short(n: u64) -> u16 {
@@ -51,7 +51,7 @@ impl Bench {
     }
 
     // A recovery of larger buffers in place of a step.
-    pub fn recovers(mut self, words: u64, log: u64) -> Bench {
+    pub(crate) fn recovers(mut self, words: u64, log: u64) -> Bench {
         let r = recovery(words, log);
         self.answer = r.answer;
         self.made = r.stores;
@@ -59,7 +59,7 @@ impl Bench {
     }
 
     // Other lengths of home, of working and of the log are lent from now on.
-    pub fn lends(mut self, numbers: [u64; 4]) -> Bench {
+    pub(crate) fn lends(mut self, numbers: [u64; 4]) -> Bench {
         self.lent[0] = numbers[0];
         self.lent[1] = numbers[1];
         self.lent[2] = numbers[2];
@@ -67,14 +67,14 @@ impl Bench {
     }
 
     // Another word of the log.
-    pub fn sets(mut self, at: u64, value: u64) -> Bench {
+    pub(crate) fn sets(mut self, at: u64, value: u64) -> Bench {
         let i = least(at, 255);
         self.log[i] = value;
         self
     }
 
     // Another W, L, head and tail of the state.
-    pub fn limits(self, numbers: [u64; 4]) -> Bench {
+    pub(crate) fn limits(self, numbers: [u64; 4]) -> Bench {
         let mut state = self.fields();
         state.words = short(numbers[0]);
         state.slots = short(numbers[1]);
@@ -84,7 +84,7 @@ impl Bench {
     }
 
     // Another holder and other word states of a line.
-    pub fn holds(self, line: u64, holder: u64, states: u64) -> Bench {
+    pub(crate) fn holds(self, line: u64, holder: u64, states: u64) -> Bench {
         let mut state = self.fields();
         let mut lines = state.lines;
         let i = least(line, 63);
@@ -95,7 +95,7 @@ impl Bench {
     }
 
     // One more undo+redo entry; past the last place only the length grows.
-    pub fn adds_undo(self, thread: u64, word: u64) -> Bench {
+    pub(crate) fn adds_undo(self, thread: u64, word: u64) -> Bench {
         let mut state = self.fields();
         let mut undos = state.undos;
         let at = least(undos.len as u64, 32);
@@ -109,7 +109,7 @@ impl Bench {
     }
 
     // One more redo entry, in the same way.
-    pub fn adds_redo(self, thread: u64, word: u64) -> Bench {
+    pub(crate) fn adds_redo(self, thread: u64, word: u64) -> Bench {
         let mut state = self.fields();
         let mut redos = state.redos;
         let at = least(redos.len as u64, 32);
@@ -123,7 +123,7 @@ impl Bench {
     }
 
     // Another length of the redo buffer.
-    pub fn redos(self, len: u64) -> Bench {
+    pub(crate) fn redos(self, len: u64) -> Bench {
         let mut state = self.fields();
         let mut redos = state.redos;
         redos.len = least(len, 33);
@@ -132,7 +132,7 @@ impl Bench {
     }
 
     // A thread has no open transaction.
-    pub fn closes(self, thread: u64) -> Bench {
+    pub(crate) fn closes(self, thread: u64) -> Bench {
         let mut state = self.fields();
         let mut opened = state.opened;
         let t = least(thread, 7);

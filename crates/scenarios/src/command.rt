@@ -172,7 +172,7 @@ impl Command {
     }
 
     // The next byte.
-    pub fn read(mut self, byte: u8) -> Command {
+    pub(crate) fn read(mut self, byte: u8) -> Command {
         let digit = digit_of(byte);
         if digit < self.base {
             return self.with_digit(digit);

@@ -8,7 +8,7 @@ pub struct Tally {
 }
 
 impl Tally {
-    pub fn count(self, right: bool) -> Tally {
+    pub(crate) fn count(self, right: bool) -> Tally {
         Tally {
             ran: std::num::wrapping_add_u64(self.ran, 1),
             wrong: std::num::wrapping_add_u64(self.wrong, if right { 0 } else { 1 }),

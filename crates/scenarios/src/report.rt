@@ -78,7 +78,7 @@ impl Bench {
     }
 
     // Everything is as expected.
-    pub fn is_right(self) -> bool {
+    pub(crate) fn is_right(self) -> bool {
         let n = self.count;
         let answers = self.answers;
         let wanted = self.wanted;
@@ -95,7 +95,7 @@ impl Bench {
     }
 
     // What came out, and what is expected.
-    pub fn shows_steps(self) {
+    pub(crate) fn shows_steps(self) {
         let n = self.count;
         let answers = self.answers;
         let wanted = self.wanted;
@@ -114,7 +114,7 @@ impl Bench {
         pair(b"; head ", self.log[0], self.ends[2]);
     }
 
-    pub fn shows_slots(self) {
+    pub(crate) fn shows_slots(self) {
         self.show_slot(0);
         self.show_slot(1);
         self.show_slot(2);

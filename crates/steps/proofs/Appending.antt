@@ -22,8 +22,8 @@ use Rattle.model.proofs.Performing.{puts-append, partly}
 use Rattle.model.proofs.Outcomes.{outcome-done, outcome-cut}
 use Rattle.model.proofs.Fit.{Fit}
 use Rattle.logging.proofs.Appending.{Appended}
-use Rattle.steps.specs.declared.Made.{Made}
-use Rattle.steps.specs.View.{view, shown}
+use Rattle.state.specs.declared.Made.{Made}
+use Rattle.state.specs.View.{view, shown}
 use Rattle.steps.proofs.Outcome.{outcome-eq}
 
 -- a step whose records have room gives them numbers below the limit

@@ -1,6 +1,6 @@
 -- What a commit logs, what it hands back, and the state after it.
 use Prim.Native.Nat.{ℕ, _+_, _-_, _*_, _/_, _%_, _≤_, _<_, min}
-use mathlib.Core.Path.{_≡_, refl, sym, _∙_, ap}
+use mathlib.Core.Path.{_≡_, refl, sym, _∙_}
 use mathlib.Core.Bool.{Bool, false, cond, _&&_, not}
 use mathlib.Core.List.{List, _∷_, _++_, map}
 use native.Mathlib.Omega.{arith}
@@ -25,18 +25,18 @@ use Rattle.model.specs.Plan.{append, planned}
 use Rattle.model.specs.Refusals.{Row, unless, numberOf, common, unknownThread, notOpen, noRoom}
 use Rattle.model.specs.Steps.{newestRedos, commitRecords, released, commitPlan}
 use Rattle.model.specs.Step.{commit, planOf, stepped}
-use Rattle.model.proofs.Fit.{Fit, fit}
+use Rattle.model.proofs.Fit.{Fit}
 use Rattle.model.proofs.Outcomes.{none-apply, outcome-refused}
 use Rattle.logging.specs.Newest.{linesOf, newestWords}
 use Rattle.logging.specs.Records.{commitRecordsOf}
 use Rattle.logging.proofs.Appending.{Appended}
 use Rattle.logging.proofs.Guards.{commit-of}
-use Rattle.steps.specs.declared.Fields.{Fields}
-use Rattle.steps.specs.declared.Made.{Made}
-use Rattle.steps.specs.View.{view, memory, shown}
+use Rattle.state.specs.declared.Fields.{Fields}
+use Rattle.state.specs.declared.Made.{Made}
+use Rattle.state.specs.View.{view, memory, shown}
 use Rattle.steps.specs.Committing.{HasEntries, HasLog, committedBy}
 use Rattle.steps.proofs.Outcome.{width}
-use Rattle.steps.proofs.Refused.{passed, refused-first, refused-then}
+use Rattle.steps.proofs.Refused.{passed, common-fit, refused-then}
 use Rattle.steps.proofs.Appending.{room, append-done, append-cut}
 
 -- the number of records that a commit logs
@@ -148,22 +148,17 @@ module _ (s : Fields) (t c : ℕ) (home working log : List ℕ) where
   unfolding planOf commitPlan committedBy
   plan = refl
 
-  -- refused by a common row, or by a later one
-  refused : (n : ℕ) → n ≡ numberOf rows → (n ≡ 0 → ⊥)
-      → record { answer = n; left = c; machine = view s; memory = mem } ≡ stepped (commit t) c (view s) mem
-  refused n e some = sym (outcome-refused (commit t) c (view s) mem rows (map append records) next working plan n (sym e) some refl)
-
-  module _ (first : ℕ) (by : first ≡ numberOf (common (view s) mem)) where
-    pub commit-unfit : (first ≡ 0 → ⊥) → record { answer = first; left = c; machine = view s; memory = mem } ≡ stepped (commit t) c (view s) mem
-    commit-unfit some = refused first (refused-first (view s) mem rest first by some) some
-
-    pub commit-refused : first ≡ 0 → (n : ℕ) → n ≡ numberOf rest → (n ≡ 0 → ⊥)
+  module _ (zero : numberOf (common (view s) mem) ≡ 0) where
+    -- refused by a row of its own
+    pub commit-refused : (n : ℕ) → n ≡ numberOf rest → (n ≡ 0 → ⊥)
         → record { answer = n; left = c; machine = view s; memory = mem } ≡ stepped (commit t) c (view s) mem
-    commit-refused zero n e some = refused n (e ∙ refused-then (view s) mem rest first by zero) some
+    commit-refused n e some =
+        sym (outcome-refused (commit t) c (view s) mem rows (map append records) next working plan n
+        (sym (e ∙ refused-then (view s) mem zero rest)) some refl)
 
     -- by none of the common ones
-    pub sized : first ≡ 0 → Sizes s
-    sized zero = sizes s mem (fit (view s) mem (passed (view s) mem first by zero))
+    pub sized : Sizes s
+    sized = sizes s mem (common-fit (view s) mem zero)
 
   -- by none
   pub record Ready : Type 0 where
@@ -172,12 +167,12 @@ module _ (s : Fields) (t c : ℕ) (home working log : List ℕ) where
     pub thread : t < 8
     pub below : s .tail + length records ≤ numbers
 
-  pub ready : (first : ℕ) → first ≡ numberOf (common (view s) mem) → first ≡ 0 → (n : ℕ) → n ≡ numberOf rest → n ≡ 0 → Ready
-  ready first by zero n e none =
-      let early = passed (view s) mem first by zero in
+  pub ready : numberOf (common (view s) mem) ≡ 0 → (n : ℕ) → n ≡ numberOf rest → n ≡ 0 → Ready
+  ready zero n e none =
+      let early = passed (view s) mem zero in
       let later : Every (λ r. r .applies ≡ false) rest =
       none-apply rest (omega arith, (omega arith, (omega arith, (omega arith, tt)))) (sym e ∙ none) in
-      let fits = fit (view s) mem early in
+      let fits = common-fit (view s) mem zero in
       record {
         fits = fits;
         none = every-append (λ (r : Row). r .applies ≡ false) (common (view s) mem) rest early later;

@@ -1,82 +1,34 @@
 -- A delete by its parts: the numbers under which it is refused, and its one store.
-use Prim.Native.Nat.{ℕ, _+_, _-_, _/_, _%_, _<_}
-use mathlib.Core.Path.{_≡_, refl, sym, _∙_, ap}
-use mathlib.Core.Bool.{Bool, false, _||_, not}
+use Prim.Native.Nat.{ℕ, _+_, _-_}
+use mathlib.Core.Path.{_≡_, refl, sym, _∙_}
+use mathlib.Core.Bool.{false}
 use mathlib.Core.List.{List, [], _∷_, _++_}
 use native.Mathlib.Nat.{sub-zero}
 use native.Mathlib.Omega.{arith}
-use lib.Dec.{eqb}
-use lib.ListN.{length, getD, take, replicate}
-use Rattle.log.specs.declared.Record.the-variants.{UndoRedo, Redo, Commit}
-use Rattle.log.specs.declared.Reading.{Reading}
-use Rattle.log.specs.declared.Reading.the-variants.{Good, Bad}
+use lib.ListN.{length, take, replicate}
 use Rattle.log.specs.Stores.{Store, stored, storedUnder}
-use Rattle.log.specs.Region.{slotsOf, readBack, readFrom, headStores}
+use Rattle.log.specs.Region.{slotsOf, headStores}
 use Rattle.log.specs.Holding.{Every}
 use Rattle.log.proofs.Stored.{under-none}
 use Rattle.log.proofs.Holding.{size-of-head}
-use Rattle.parts.specs.declared.Line.{Line}
-use Rattle.model.specs.Lists.{any}
-use Rattle.model.specs.Machine.{Machine, Memory, lostMachine, withHead, dirtyIn}
+use Rattle.model.specs.Machine.{Machine, Memory, lostMachine, withHead}
 use Rattle.model.specs.Plan.{Op, setHead, putsOf, planned, Outcome}
-use Rattle.model.specs.Refusals.{Row, row, numberOf, unless, common, nothing, damaged, needed}
-use Rattle.model.specs.Steps.{isBad, isCommitOf, isNeeded, deletePlan}
+use Rattle.model.specs.Refusals.{Row, numberOf, unless, common}
+use Rattle.model.specs.Steps.{deleteRows, deletePlan}
 use Rattle.model.specs.Step.{deleteOldest, planOf, stepped}
-use Rattle.model.proofs.LinesInUse.{line-in-use}
 use Rattle.model.proofs.Performing.{puts, puts-head, partly}
-use Rattle.model.proofs.Outcomes.{none-apply, outcome-refused, outcome-done, outcome-cut}
+use Rattle.model.proofs.Outcomes.{outcome-eq, none-apply, outcome-refused, outcome-done, outcome-cut}
 use Rattle.model.proofs.Fit.{Fit, fit}
-use Rattle.recovery.specs.Recovering.{ValidIf}
-use Rattle.recovery.specs.Deleting.{neededBy, refusalRows}
-use Rattle.recovery.proofs.ReadOn.{valid-read}
-use Rattle.steps.specs.declared.Fields.{Fields}
-use Rattle.steps.specs.View.{view}
-use Rattle.steps.proofs.Outcome.{outcome-eq, width}
-use Rattle.steps.proofs.Refused.{passed, refused-then}
-
--- The rows of a delete after the common ones.
-abbrev pub deleteRows : Machine → List ℕ → List Row
-deleteRows m log =
-    let oldest = readBack (m .words) log (m .head) in
-    let later = readFrom (m .tail - (m .head + 1)) (m .words) log (m .head + 1) in
-    row (eqb (m .head) (m .tail)) nothing ∷ row (isBad oldest) damaged ∷ row (isNeeded m oldest later) needed ∷ []
-
--- the dirty flag of a word's line, in the array and in the list of the lines in use
-flag-same : (s : Fields) → s .words % 8 ≡ 0 → (w : ℕ) → w < s .words → getD (s .lines .dirty) (w / 8) false ≡ dirtyIn (view s .lines) w
-unfolding dirtyIn
-flag-same s whole w below =
-    let inside : w / 8 < s .words / 8 = omega arith in
-    ap (λ (l : Line). l .dirty) (line-in-use (s .words / 8) (s .lines) (w / 8) inside)
-
--- whether a record is needed, by the flags and by the state
-needed-same : (s : Fields) → s .words % 8 ≡ 0 → (x : Reading) → ValidIf (s .words) x → (later : List Reading)
-    → neededBy (s .lines .dirty) x later ≡ isNeeded (view s) x later
-needed-same s whole (Good (UndoRedo t w u r)) v later =
-    ap (λ (b : Bool). not (any (isCommitOf t) later) || b) (flag-same s whole w (v .word))
-needed-same s whole (Good (Redo t w r)) v later =
-    ap (λ (b : Bool). not (any (isCommitOf t) later) || b) (flag-same s whole w (v .word))
-needed-same s whole (Good (Commit t)) v later = refl
-needed-same s whole Bad v later = refl
-
--- the rows of the log itself are those of the delete
-pub rows-same : (s : Fields) → s .words % 8 ≡ 0 → (log : List ℕ)
-    → refusalRows (s .head) (s .tail) (s .words) (s .lines .dirty) log ≡ deleteRows (view s) log
-rows-same s whole log =
-    let oldest = readBack (s .words) log (s .head) in
-    ap (λ (b : Bool). row (eqb (s .head) (s .tail)) nothing ∷ row (isBad oldest) damaged ∷ row b needed ∷ [])
-    (needed-same s whole oldest (valid-read (s .words) log (s .head)) (readFrom (s .tail - (s .head + 1)) (s .words) log (s .head + 1)))
+use Rattle.steps.proofs.Refused.{refused-then}
 
 -- a delete's rows
 abbrev pub allRows : Machine → Memory → List Row
-allRows m mem = common m mem ++ deleteRows m (mem .log)
+allRows m mem = common m mem ++ deleteRows m mem
 
--- where no common row applies, the number is that of the log's own rows
-pub number-own : (s : Fields) (mem : Memory) (unfit number : ℕ) → unfit ≡ numberOf (common (view s) mem) → unfit ≡ 0
-    → number ≡ numberOf (refusalRows (s .head) (s .tail) (s .words) (s .lines .dirty) (mem .log)) → number ≡ numberOf (allRows (view s) mem)
-number-own s mem unfit number e none f =
-    let fits = fit (view s) mem (passed (view s) mem unfit e none) in
-    f ∙ ap numberOf (rows-same s (width (s .words) (fits .clauses .width) .whole) (mem .log))
-    ∙ refused-then (view s) mem (deleteRows (view s) (mem .log)) unfit e none
+-- where no common row applies, the number is that of the delete's own rows
+pub number-own : (m : Machine) (mem : Memory) (number : ℕ) → numberOf (common m mem) ≡ 0
+    → number ≡ numberOf (deleteRows m mem) → number ≡ numberOf (allRows m mem)
+number-own m mem number none e = e ∙ refused-then m mem none (deleteRows m mem)
 
 module _ (c : ℕ) (m : Machine) (mem : Memory) where
   ops : List Op

@@ -1,11 +1,12 @@
 -- A line evicted: the entries that its ULog words add, how many must be logged before, and the state after it.
-use Prim.Native.Nat.{ℕ, _+_, _-_, _*_, _/_, _≤_, _<_}
+use Prim.Native.Nat.{ℕ, _+_, _-_, _*_, _/_, _%_, _≤_, _<_}
 use mathlib.Core.Path.{_≡_, refl, sym, ap, ap₂, subst, _∙_}
 use mathlib.Core.Bool.{false, cond, _&&_}
-use mathlib.Core.List.{List, [], _++_, map, map-map}
+use mathlib.Core.List.{List, [], _++_, map, map-map, append-nil}
 use native.Mathlib.Omega.{arith}
-use lib.Dec.{ltb}
-use lib.ListN.{length, getD, take, drop, replicate, length-map, length-drop}
+use lib.Dec.{eqb, ltb}
+use lib.ListN.{length, getD, set, drop, replicate, length-map, length-drop}
+use lib.Seq.{set-getD}
 use Rattle.log.specs.declared.Record.{Record}
 use Rattle.log.specs.Region.{numbers}
 use Rattle.log.specs.Holding.{Every}
@@ -13,32 +14,55 @@ use Rattle.parts.specs.declared.Entry.{Entry}
 use Rattle.parts.specs.declared.RedoBuffer.{RedoBuffer}
 use Rattle.parts.specs.declared.Line.{Line}
 use Rattle.parts.specs.declared.Lines.{Lines}
-use Rattle.parts.specs.Lines.{lineAt, firstLines}
-use Rattle.parts.specs.States.{ULog}
+use Rattle.parts.specs.Listed.{listed}
+use Rattle.parts.specs.Lines.{lineAt, firstLines, putLine}
+use Rattle.parts.specs.States.{stateAt, ULog}
 use Rattle.parts.specs.Waiting.{redosWaiting}
 use Rattle.parts.proofs.Waiting.{redoAt}
 use Rattle.parts.proofs.Listed.{length-listed}
 use Rattle.parts.proofs.Oldest.{length-oldest}
+use Rattle.parts.proofs.FirstLines.{WholeLines}
 use Rattle.model.specs.Lists.{keep, upTo}
 use Rattle.model.specs.Machine.{Machine, Memory, lostMachine, freeSlots, withTail, withLines, withRedo, lineOf, statesAs, changed}
 use Rattle.model.specs.Plan.{append, planned}
-use Rattle.model.specs.Refusals.{Row, unless, numberOf, noRoom}
+use Rattle.model.specs.Refusals.{Row, unless, numberOf, common, noRoom}
 use Rattle.model.specs.Steps.{evicted, lacking, redoRecord, redoRecords, redosLogged, evictPlan}
 use Rattle.model.specs.Step.{evict, planOf, stepped}
-use Rattle.model.proofs.LinesInUse.{line-in-use}
-use Rattle.model.proofs.Outcomes.{number-then, outcome-refused}
+use Rattle.model.proofs.LinesInUse.{line-in-use, first-changed}
+use Rattle.model.proofs.Outcomes.{outcome-refused}
 use Rattle.line_walks.specs.Walks.{isULog, ulogEntry, ulogEntries, addedAll}
 use Rattle.line_walks.proofs.ULogEntries.{added-all, entries-there}
+use Rattle.line_walks.proofs.WordStates.{withStates}
 use Rattle.logging.proofs.LineWords.{keep-below}
 use Rattle.logging.proofs.Appending.{Appended}
-use Rattle.steps.specs.declared.Fields.{Fields}
-use Rattle.steps.specs.declared.Made.{Made}
-use Rattle.steps.specs.View.{view, shown}
+use Rattle.state.specs.declared.Fields.{Fields}
+use Rattle.state.specs.declared.Made.{Made}
+use Rattle.state.specs.View.{view, shown}
 use Rattle.steps.proofs.Appending.{room, append-done, append-cut}
-use Rattle.steps.proofs.LineRows.{lineRows, none-refuse, LineFit, line-fit}
+use Rattle.steps.proofs.LineRows.{lineRows, none-refuse, LineFit, line-fit, common-narrow, lineNumber, line-number}
 
--- the line at i, in use
-module _ (s : Fields) (i : ℕ) (line : Line) (read : line ≡ lineAt (s .lines) i) (below : i < s .words / 8) where
+-- no word is ULog where all are Clean
+clean-keep : keep (λ j. eqb (stateAt 0 j) ULog) (upTo 8) ≡ []
+unfolding keep stateAt listed
+clean-keep = refl
+
+-- how many of so many redo entries lack places, by the states of the 64 lines
+abbrev pub lackingIn : ℕ → List ℕ → ℕ → ℕ
+lackingIn len states i = len + length (keep (λ j. eqb (stateAt (getD states (i % 64) 0) j) ULog) (upTo 8)) - 32
+
+-- the states of line i replaced in place
+states-lines : (n : ℕ) (ls : Lines) (i k : ℕ) (ss : List ℕ) → WholeLines ls → n ≤ 64 → ss ≡ set (ls .states) i k
+    → firstLines n (withStates ss ls) ≡ changed (statesAs k) i (firstLines n ls)
+states-lines n ls i k ss whole h e = rw e (ap (firstLines n) (sym states-put) ∙ first-changed (statesAs k) n ls i whole h)
+  where
+    states-put : putLine ls i (statesAs k (lineAt ls i)) ≡ withStates (set (ls .states) i k) ls
+    states-put = simp set-getD
+
+-- line i, in use
+module _ (s : Fields) (i : ℕ) (below : i < s .words / 8) where
+  abbrev line : Line
+  line = lineAt (s .lines) i
+
   -- the entries that it adds
   evicted-by : (mem : Memory) → evicted (view s) mem i ≡ map (ulogEntry line (mem .working) (8 * i)) (keep (isULog line) (upTo 8))
   unfolding evicted
@@ -46,10 +70,9 @@ module _ (s : Fields) (i : ℕ) (line : Line) (read : line ≡ lineAt (s .lines)
       ap (map (λ w. record { thread = lineOf (view s .lines) i .holder; word = w; undo = 0; redo = getD (mem .working) w 0 }))
       (keep-below (s .words / 8) (s .lines) i below ULog)
       ∙ map-map (λ w. record { thread = lineOf (view s .lines) i .holder; word = w; undo = 0; redo = getD (mem .working) w 0 })
-      (λ j. 8 * i + j) (keep (isULog (lineAt (s .lines) i)) (upTo 8))
-      ∙ ap (λ (l : Line). map (ulogEntry l (mem .working) (8 * i)) (keep (isULog (lineAt (s .lines) i)) (upTo 8)))
+      (λ j. 8 * i + j) (keep (isULog line) (upTo 8))
+      ∙ ap (λ (l : Line). map (ulogEntry l (mem .working) (8 * i)) (keep (isULog line) (upTo 8)))
       (sym (line-in-use (s .words / 8) (s .lines) i below))
-      ∙ ap (λ (l : Line). map (ulogEntry l (mem .working) (8 * i)) (keep (isULog l) (upTo 8))) (sym read)
 
   -- how many they are
   count-evicted : (mem : Memory) → length (evicted (view s) mem i) ≡ length (keep (isULog line) (upTo 8))
@@ -57,51 +80,54 @@ module _ (s : Fields) (i : ℕ) (line : Line) (read : line ≡ lineAt (s .lines)
       ap length (evicted-by mem) ∙ length-map (keep (isULog line) (upTo 8)) (ulogEntry line (mem .working) (8 * i))
 
   -- how many entries must be logged
-  pub lacking-by : (mem : Memory) (count : ℕ) → count ≡ s .redos .len + length (keep (isULog line) (upTo 8)) - 32 → count ≡ lacking (view s) mem i
-  lacking-by mem count e =
+  pub lacking-by : (mem : Memory) (count : ℕ) → s .words ≤ 512 → count ≡ lackingIn (s .redos .len) (s .lines .states) i → count ≡ lacking (view s) mem i
+  lacking-by mem count narrow e =
+      let same : i % 64 ≡ i = omega arith in
+      let f : count ≡ s .redos .len + length (keep (isULog line) (upTo 8)) - 32 = rw same at e in
       let a = length-listed (s .redos .len) (redoAt (s .redos)) in
       let b = count-evicted mem in
       omega arith
 
-  -- where so many are logged, there is a place for each new entry in the rest
-  module _ (rest : RedoBuffer) (mem : Memory) (count : ℕ) (e : redosWaiting rest ≡ drop count (redosWaiting (s .redos)))
-      (f : count ≡ lacking (view s) mem i) (h : count ≤ s .redos .len) where
-    places : rest .len + length (keep (isULog line) (upTo 8)) ≤ 32
-    places =
-        let a = length-listed (s .redos .len) (redoAt (s .redos)) in
-        let b = count-evicted mem in
-        let d = length-listed (rest .len) (redoAt rest) in
-        let g : length (redosWaiting rest) ≡ length (redosWaiting (s .redos)) - count = ap length e ∙ length-drop count (redosWaiting (s .redos)) in
-        omega arith
-
-    -- so each is put last
-    entries-added : (grown : RedoBuffer) → s .words ≤ 512 → length (mem .working) ≡ s .words
-        → redosWaiting grown ≡ addedAll (ulogEntries line (mem .working) (8 * i)) (redosWaiting rest)
-        → redosWaiting grown ≡ redosWaiting rest ++ evicted (view s) mem i
+  module _ (mem : Memory) (count : ℕ) (lacks : count ≡ lacking (view s) mem i) (within : count ≤ s .redos .len) where
+    -- where so many are logged, there is a place for each new entry, and each is put last
+    pub entries-added : (grown : RedoBuffer) → s .words ≤ 512 → length (mem .working) ≡ s .words
+        → redosWaiting grown ≡ addedAll (ulogEntries line (mem .working) (8 * i)) (drop count (redosWaiting (s .redos)))
+        → redosWaiting grown ≡ drop count (redosWaiting (s .redos)) ++ evicted (view s) mem i
     entries-added grown narrow sizes more =
         let new : List Entry = map (ulogEntry line (mem .working) (8 * i)) (keep (isULog line) (upTo 8)) in
-        let room = places in
-        let a = length-listed (rest .len) (redoAt rest) in
-        let b = length-map (keep (isULog line) (upTo 8)) (ulogEntry line (mem .working) (8 * i)) in
+        let rest : List Entry = drop count (redosWaiting (s .redos)) in
+        let a = length-listed (s .redos .len) (redoAt (s .redos)) in
+        let b = count-evicted mem in
+        let d = length-drop count (redosWaiting (s .redos)) in
+        let f = length-map (keep (isULog line) (upTo 8)) (ulogEntry line (mem .working) (8 * i)) in
         more
-        ∙ ap (λ (xs : List Entry). addedAll xs (redosWaiting rest)) (entries-there line (mem .working) (8 * i) (omega arith) (omega arith))
-        ∙ added-all new (redosWaiting rest) (omega arith)
-        ∙ ap (λ (xs : List Entry). redosWaiting rest ++ xs) (sym (evicted-by mem))
+        ∙ ap (λ (xs : List Entry). addedAll xs rest) (entries-there line (mem .working) (8 * i) (omega arith) (omega arith))
+        ∙ added-all new rest (omega arith)
+        ∙ ap (λ (xs : List Entry). rest ++ xs) (sym (evicted-by mem))
+
+    -- of a line whose words are all Clean there is none, and none is logged
+    pub entries-none : getD (s .lines .states) i 0 ≡ 0 → s .redos .len ≤ 32
+        → redosWaiting (s .redos) ≡ drop count (redosWaiting (s .redos)) ++ evicted (view s) mem i
+    entries-none clean few =
+        let none : keep (isULog line) (upTo 8) ≡ [] = rw clean clean-keep in
+        let new : evicted (view s) mem i ≡ [] = rw (evicted-by mem, none) in
+        let a = length-listed (s .redos .len) (redoAt (s .redos)) in
+        let b : length (evicted (view s) mem i) ≡ 0 = rw new in
+        let z : count ≡ 0 = omega arith in
+        rw (new, z) (sym (append-nil (redosWaiting (s .redos))))
 
     -- the state after the eviction
-    pub set-down : (grown : RedoBuffer) (clean : Lines) → s .words ≤ 512 → length (mem .working) ≡ s .words
-        → redosWaiting grown ≡ addedAll (ulogEntries line (mem .working) (8 * i)) (redosWaiting rest)
-        → ((n : ℕ) → n ≤ 64 → firstLines n clean ≡ changed (statesAs 0) i (firstLines n (s .lines)))
-        → withTail (s .tail + count) (withLines (firstLines (s .words / 8) clean) (withRedo (redosWaiting grown) (view s)))
+    pub set-down : (grown : RedoBuffer) (ss : List ℕ) → s .words ≤ 512 → WholeLines (s .lines)
+        → redosWaiting grown ≡ drop count (redosWaiting (s .redos)) ++ evicted (view s) mem i → ss ≡ set (s .lines .states) i 0
+        → withTail (s .tail + count) (withLines (firstLines (s .words / 8) (withStates ss (s .lines))) (withRedo (redosWaiting grown) (view s)))
         ≡ withLines (changed (statesAs 0) i (view s .lines)) (withRedo (drop count (view s .redo) ++ evicted (view s) mem i) (redosLogged count (view s)))
-    set-down grown clean narrow sizes more changes =
+    set-down grown ss narrow whole more clean =
         let lines : List Line = changed (statesAs 0) i (view s .lines) in
         let redos : List Entry = drop count (view s .redo) ++ evicted (view s) mem i in
         ap₂ (λ (ls : List Line) (es : List Entry). withTail (s .tail + count) (withLines ls (withRedo es (view s))))
-        (changes (s .words / 8) (omega arith))
-        (entries-added grown narrow sizes more ∙ ap (λ (xs : List Entry). xs ++ evicted (view s) mem i) e)
+        (states-lines (s .words / 8) (s .lines) i 0 ss whole (omega arith) clean) more
         ∙ ap (λ (k : ℕ). withTail (s .tail + k) (withLines lines (withRedo redos (view s))))
-        (sym (length-oldest redoRecord count (s .redos .len) (redoAt (s .redos)) h))
+        (sym (length-oldest redoRecord count (s .redos .len) (redoAt (s .redos)) within))
 
 -- a buffer's length is the number of the entries that wait in it
 pub few-wait : (b : RedoBuffer) → length (redosWaiting b) ≤ 32 → b .len ≤ 32
@@ -111,7 +137,7 @@ module _ (i c : ℕ) (s : Fields) (mem : Memory) where
   abbrev records : List Record
   records = redoRecords (lacking (view s) mem i) (view s)
 
-  abbrev rows : List Row
+  abbrev pub rows : List Row
   rows = lineRows (view s) mem i (noRoom (view s) records)
 
   -- the state after the eviction, for which k redo entries were logged
@@ -127,14 +153,18 @@ module _ (i c : ℕ) (s : Fields) (mem : Memory) where
   size : (count : ℕ) → count ≡ lacking (view s) mem i → count ≤ s .redos .len → length records ≡ count
   size count e h = rw (← e) (length-oldest redoRecord count (s .redos .len) (redoAt (s .redos)) h)
 
-  -- the number of the rows, where those before the last two do not apply
-  pub evict-number : (count n : ℕ) → numberOf (lineRows (view s) mem i []) ≡ 0 → count ≡ lacking (view s) mem i → count ≤ s .redos .len
-      → n ≡ cond (ltb (freeSlots (view s)) count) 10 (cond (ltb 0 count && ltb numbers (s .tail + count)) 11 0) → n ≡ numberOf rows
+  -- the number of the rows, by the code: the line's, then those of the records
+  pub evict-number : (count room n : ℕ) → numberOf (common (view s) mem) ≡ 0 → count ≡ lackingIn (s .redos .len) (s .lines .states) i
+      → count ≤ s .redos .len → room ≡ cond (ltb (freeSlots (view s)) count) 10 (cond (ltb 0 count && ltb numbers (s .tail + count)) 11 0)
+      → n ≡ lineNumber (s .words) (s .lines .states) i room → n ≡ numberOf rows
   unfolding numberOf
-  evict-number count n none e h last =
+  evict-number count room n none counted within last e =
+      line-number s mem i room n (noRoom (view s) records) none
+      (λ below.
       last
-      ∙ ap (λ (k : ℕ). cond (ltb (freeSlots (view s)) k) 10 (cond (ltb 0 k && ltb numbers (s .tail + k)) 11 0)) (sym (size count e h))
-      ∙ sym (number-then (lineRows (view s) mem i []) (noRoom (view s) records) (none-refuse (view s) mem i [] tt none))
+      ∙ ap (λ (k : ℕ). cond (ltb (freeSlots (view s)) k) 10 (cond (ltb 0 k && ltb numbers (s .tail + k)) 11 0))
+      (sym (size count (lacking-by s i below mem count (common-narrow (view s) mem none) counted) within)))
+      e
 
   -- refused: all is as it was
   pub evict-refused : (n : ℕ) → n ≡ numberOf rows → (n ≡ 0 → ⊥)

@@ -25,8 +25,8 @@ use Rattle.line_walks.proofs.WordStates.{withStates, replaced, first-marked}
 use Rattle.model.specs.Machine.{Machine, Memory, changed, marked, heldBy, dirtyAs, stateIn, allLogged, withTail, withLines, withUndoRedo, withRedo}
 use Rattle.model.specs.Steps.{undosLogged, storeLogs, storedAs, storeNext}
 use Rattle.model.proofs.Lists.{both-right}
-use Rattle.steps.specs.declared.Fields.{Fields}
-use Rattle.steps.specs.View.{view}
+use Rattle.state.specs.declared.Fields.{Fields}
+use Rattle.state.specs.View.{view}
 
 -- how many entries are logged first, by the code's test
 pub logs-by : (m : Machine) (w : ℕ) (same t : Bool) (k n : ℕ) → k ≡ stateIn (m .lines) w → n ≡ length (m .undoRedo)

@@ -1,6 +1,7 @@
 -- Laws that the proofs of the functions share.
 pub mod Appending
 pub mod Refused
+pub mod Early
 pub mod LoggingOldest
 pub mod DeleteStep
 pub mod Outcome
@@ -11,5 +12,4 @@ pub mod Eviction
 pub mod Filing
 pub mod StoreRows
 pub mod Commits
-pub mod RecoverStep
 pub mod Sound

@@ -26,11 +26,11 @@ use Rattle.model.specs.Step.{Step, planOf, taken, stepped}
 use Rattle.model.proofs.Outcomes.{none-apply, outcome-refused}
 use Rattle.model.proofs.Fit.{Clauses, Fit}
 use Rattle.logging.proofs.Appending.{Appended}
-use Rattle.steps.specs.declared.Fields.{Fields}
-use Rattle.steps.specs.declared.Made.{Made}
-use Rattle.steps.specs.View.{view, shown}
+use Rattle.state.specs.declared.Fields.{Fields}
+use Rattle.state.specs.declared.Made.{Made}
+use Rattle.state.specs.View.{view, shown}
 use Rattle.steps.proofs.Outcome.{width}
-use Rattle.steps.proofs.Refused.{fit-first}
+use Rattle.steps.proofs.Refused.{common-fit, refused-then}
 use Rattle.steps.proofs.Appending.{room, append-done, append-cut}
 
 -- its own rows, with its record, or none
@@ -84,6 +84,11 @@ some-oldest : (records : List Record) → isEmpty records ≡ false → 1 ≤ le
 some-oldest [] e = absurd (false≢true (sym e))
 some-oldest (r ∷ records) e = omega arith
 
+-- where the common rows refuse nothing, head and tail are those of the log
+pub in-log : (m : Machine) (mem : Memory) → numberOf (common m mem) ≡ 0
+    → (m .head ≤ m .tail) × ((m .tail ≤ m .head + m .slots) × (m .tail ≤ numbers))
+in-log m mem sound = let d = common-fit m mem sound .clauses in (d .order, (d .span, d .tail))
+
 -- What is known once such a step is not refused.
 pub record Ready (m : Machine) (mem : Memory) (places n : ℕ) (records : List Record) : Type 0 where
   pub none : Every (λ r. r .applies ≡ false) (common m mem ++ ownRows m records)
@@ -96,13 +101,13 @@ pub record Ready (m : Machine) (mem : Memory) (places n : ℕ) (records : List R
 
 -- it follows from the number 0
 pub ready : (f : Entry → Record) (places n : ℕ) (at : ℕ → Entry) (m : Machine) (mem : Memory) (k : ℕ)
-    → (Clauses m → length (listed n at) ≤ places) → k ≡ numberOf (common m mem ++ ownRows m (oldest f n at)) → k ≡ 0
+    → (Clauses m → length (listed n at) ≤ places) → numberOf (common m mem) ≡ 0 → k ≡ numberOf (ownRows m (oldest f n at)) → k ≡ 0
     → Ready m mem places n (oldest f n at)
-ready f places n at m mem k size e zero =
+ready f places n at m mem k size sound e zero =
     let rows : List Row = ownRows m (oldest f n at) in
     let none : Every (λ r. r .applies ≡ false) (common m mem ++ rows) = none-apply (common m mem ++ rows)
-    (omega arith, (omega arith, (omega arith, (omega arith, (omega arith, (omega arith, tt)))))) (sym e ∙ zero) in
-    let fits : Fit m mem = fit-first m mem rows none in
+    (omega arith, (omega arith, (omega arith, (omega arith, (omega arith, (omega arith, tt)))))) (sym (e ∙ refused-then m mem sound rows) ∙ zero) in
+    let fits = common-fit m mem sound in
     let own = none .1 .1 .1 in
     let count : length (oldest f n at) ≡ min 1 n = count-oldest f n at in
     let some : 1 ≤ length (oldest f n at) = some-oldest (oldest f n at) (own .1 .1 .0) in
@@ -122,9 +127,12 @@ module _ (s : Step) (f : Entry → Record) (places count : ℕ) (at : ℕ → En
   rows = common m mem ++ ownRows m (oldest f count at)
 
   -- the three ways out
-  pub oldest-refused : (n : ℕ) → n ≡ numberOf (common m mem ++ ownRows m (oldest f count at)) → (n ≡ 0 → ⊥) → taken s m ≡ m
+  pub oldest-refused : (n : ℕ) → numberOf (common m mem) ≡ 0 → n ≡ numberOf (ownRows m (oldest f count at)) → (n ≡ 0 → ⊥) → taken s m ≡ m
       → record { answer = n; left = c; machine = m; memory = mem } ≡ stepped s c m mem
-  oldest-refused n e some same = sym (outcome-refused s c m mem rows (map append (oldest f count at)) next (mem .working) plan n (sym e) some same)
+  oldest-refused n sound e some same =
+      sym
+      (outcome-refused s c m mem rows (map append (oldest f count at)) next (mem .working) plan n
+      (sym (e ∙ refused-then m mem sound (ownRows m (oldest f count at)))) some same)
 
   module _ (a : Ready m mem places count (oldest f count at)) where
     pub oldest-cut : (r : Made) (after log : List ℕ) (rest : ℕ) → c < 3 → Appended c (mem .log) (m .tail) (oldest f count at) log rest

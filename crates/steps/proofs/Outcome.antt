@@ -5,13 +5,9 @@ use mathlib.Core.Bool.{true, _&&_}
 use borrow.Author.Tests.{leb-true, eqb-true}
 use lib.Dec.{leb, eqb}
 use Rattle.model.specs.Consistent.{isWidth}
-use Rattle.model.specs.Plan.{Outcome}
 use Rattle.model.proofs.Lists.{both-left, both-right}
-
 -- two outcomes are equal, if their parts are
-pub outcome-eq : (o p : Outcome) → o .answer ≡ p .answer → o .left ≡ p .left → o .machine ≡ p .machine
-    → o .memory .home ≡ p .memory .home → o .memory .working ≡ p .memory .working → o .memory .log ≡ p .memory .log → o ≡ p
-outcome-eq o p a l m h w g = λ i. record { answer = a i; left = l i; machine = m i; memory = record { home = h i; working = w i; log = g i } }
+pub use Rattle.model.proofs.Outcomes.{outcome-eq}
 
 -- a width is a multiple of 8 from 8 to 512
 pub record Width (n : ℕ) : Type 0 where

@@ -5,8 +5,8 @@ use Rattle.model.specs.Consistent.{consistent}
 use Rattle.consistency.specs.StateOf.{linesLent, entriesLent, stateOf}
 use Rattle.consistency.proofs.Lent.{entries-lent, lent-consistent}
 use Rattle.parts.proofs.Waiting.{undoAt, redoAt}
-use Rattle.steps.specs.declared.Fields.{Fields}
-use Rattle.steps.specs.View.{view}
+use Rattle.state.specs.declared.Fields.{Fields}
+use Rattle.state.specs.View.{view}
 
 pub sound-here : (s : Fields)
     → consistent

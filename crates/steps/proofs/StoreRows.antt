@@ -20,9 +20,9 @@ use Rattle.model.specs.Steps.{undoRecords, undoRedoRecord, storeLogs, storeNext
 use Rattle.model.proofs.Outcomes.{none-apply, number-first, number-then, outcome-refused}
 use Rattle.model.proofs.Fit.{Fit, fit}
 use Rattle.logging.proofs.Appending.{Appended}
-use Rattle.steps.specs.declared.Fields.{Fields}
-use Rattle.steps.specs.declared.Made.{Made}
-use Rattle.steps.specs.View.{view, shown}
+use Rattle.state.specs.declared.Fields.{Fields}
+use Rattle.state.specs.declared.Made.{Made}
+use Rattle.state.specs.View.{view, shown}
 use Rattle.steps.proofs.Outcome.{Width, width}
 use Rattle.steps.proofs.Appending.{room, append-done, append-cut}
 use Rattle.steps.proofs.Filing.{logs-most, undos-length}
@@ -69,17 +69,17 @@ module _ (m : Machine) (mem : Memory) (t w v n : ℕ) (early : n ≡ numberOf (e
   late = lateRows m t w (eqb v (getD (mem .working) w 0))
 
   -- they refuse the store
-  pub early-refused : (n ≡ 0 → ⊥) → n ≡ numberOf (storeRows m mem t w v)
-  early-refused some = sym (number-first (earlyRows m mem t w) late n (sym early) some)
+  pub place-refused : (n ≡ 0 → ⊥) → n ≡ numberOf (storeRows m mem t w v)
+  place-refused some = sym (number-first (earlyRows m mem t w) late n (sym early) some)
 
   -- or none of them applies
-  pub early-passed : n ≡ 0 → Every (λ r. r .applies ≡ false) (earlyRows m mem t w)
-  early-passed none =
+  pub place-passed : n ≡ 0 → Every (λ r. r .applies ≡ false) (earlyRows m mem t w)
+  place-passed none =
       none-apply (earlyRows m mem t w) (omega arith, (omega arith, (omega arith, (omega arith, (omega arith, tt))))) (sym early ∙ none)
 
   -- and the later ones decide
   pub late-decides : n ≡ 0 → numberOf late ≡ numberOf (storeRows m mem t w v)
-  late-decides none = sym (number-then (earlyRows m mem t w) late (early-passed none))
+  late-decides none = sym (number-then (earlyRows m mem t w) late (place-passed none))
 
 module _ (m : Machine) (mem : Memory) (t w : ℕ) where
   -- thread and word are known, and the state fits the lent buffers

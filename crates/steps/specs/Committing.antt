@@ -7,7 +7,7 @@ use lib.ListN.{length, getD, set}
 use Rattle.model.specs.Machine.{Machine, Memory, withTail, withOpened, withLines, withRedo}
 use Rattle.model.specs.Refusals.{numberOf, common as commonRows, unknownThread, notOpen, noRoom}
 use Rattle.model.specs.Steps.{commitRecords, undosLogged, released}
-use Rattle.steps.specs.declared.Fields.{Fields}
+use Rattle.state.specs.declared.Fields.{Fields}
 
 -- the state after thread t's commit
 unfoldable pub committedBy : ℕ → ℕ → Machine → Machine

@@ -1,4 +1,3 @@
--- What the code's state and steps mean, and what the functions of each step compute.
-pub mod View
+-- What the code's steps mean, and what the functions of each step compute.
 pub mod Committing
 pub mod Steps

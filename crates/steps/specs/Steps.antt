@@ -1,4 +1,9 @@
--- A step of the code as a step of the model.
+-- A step of the code as a step of the model, and the rows that come before a step's own.
+use mathlib.Core.Bool.{not}
+use mathlib.Core.List.{List, [], _∷_}
+use Rattle.model.specs.Machine.{Machine, Memory}
+use Rattle.model.specs.Consistent.{consistent}
+use Rattle.model.specs.Refusals.{Row, row, lost, inconsistent, common}
 use Rattle.model.specs.Step.{begin, store, logUndo, logRedo, evict, writeBack, commit, deleteOldest, recover}
 use Rattle.model.specs.Step as model
 use Rattle.steps.specs.declared.Step.{Step}
@@ -14,3 +19,19 @@ stepOf (WriteBack i) = writeBack i
 stepOf (Commit t) = commit t
 stepOf DeleteOldest = deleteOldest
 stepOf Recover = recover
+
+-- the rows of a step that takes a state but is lent no buffers
+abbrev pub stateRows : Machine → List Row
+stateRows m = row (m .lost) lost ∷ row (not (consistent m)) inconsistent ∷ []
+
+-- the rows before a step's own: begin is lent no buffers, and recover takes no state
+abbrev pub early : model.Step → Machine → Memory → List Row
+early (begin t) m mem = stateRows m
+early (store t w v) m mem = common m mem
+early logUndo m mem = common m mem
+early logRedo m mem = common m mem
+early (evict i) m mem = common m mem
+early (writeBack i) m mem = common m mem
+early (commit t) m mem = common m mem
+early deleteOldest m mem = common m mem
+early recover m mem = []

@@ -10,19 +10,21 @@ ghost use Rattle.model.specs.Machine.{Machine, Memory};
 ghost use Rattle.model.specs.Refusals.{numberOf, common as commonRows, unknownThread, notOpen, noRoom};
 ghost use Rattle.model.specs.Steps.{commitRecords};
 ghost use Rattle.model.specs.Step.{commit, stepped};
-ghost use Rattle.steps.specs.View.{view, memory, shown};
+ghost use Rattle.state.specs.View.{view, memory, shown};
 ghost use Rattle.steps.specs.Committing.{HasEntries, HasLog, Allowed, committedBy};
-use crate::DONE;
-use crate::Fields;
-use crate::IDLE;
-use crate::Made;
-use crate::THREAD;
 use crate::refusals::no_room;
 use crate::refusals::refuse;
-use crate::ways_out::cut;
-use crate::ways_out::refused;
+use crate::refusals::refused;
+use line_walks::mark_logged;
+use line_walks::release;
 use logging::append_commit;
 use logging::count_newest;
+use state::DONE;
+use state::Fields;
+use state::IDLE;
+use state::Made;
+use state::THREAD;
+use state::cut;
 
 // The number of records that the thread's commit logs, with so many entries in the buffers.
 pub fn count_records<'a>(
@@ -68,10 +70,11 @@ fn after_commit(mut state: Fields, thread: u64, count: u64) -> Fields
     ensures { λ (r : Fields). ⌜ view r ≡ committedBy thread count (view state) ⌝ }
 {
     let t = thread as usize;
-    let undos = state.undos;
+    let words = state.undos.words;
+    let logged = state.undos.len;
+    mark_logged(&mut state.lines.states, &words, logged);
     let lines = state.lines;
-    let marked = line_walks::all_logged(lines, undos, undos.len);
-    let free = line_walks::release(marked, (state.words / 8) as usize, thread);
+    let free = release(lines, (state.words / 8) as usize, thread);
     state.lines = free;
     state.undos.len = 0;
     state.redos.len = 0;
@@ -124,23 +127,19 @@ fn carry_out(
     }
 }
 
-// The step, `unfit` being the number of the rows that every step tests.
+// The step, of a state that the common rows do not refuse.
 pub fn committed(
     state: Fields,
-    unfit: u64,
     home: &[u64],
     working: &mut [u64],
     log: &mut [u64],
     supply: u64,
     thread: u64,
 ) -> Made
-    requires { ⌜ unfit ≡ numberOf (commonRows (view state) (memory (now home) (now working) (now log))) ⌝ }
+    requires { ⌜ numberOf (commonRows (view state) (memory (now home) (now working) (now log))) ≡ 0 ⌝ }
     ensures { λ (r : Made). ⌜ shown r (now (home .entry)) (now (working .exit)) (now (log .exit))
         ≡ stepped (commit thread) supply (view state) (memory (now (home .entry)) (now (working .entry)) (now (log .entry))) ⌝ }
 {
-    if unfit != 0 {
-        return refused(unfit, supply, state);
-    }
     let undos = state.undos.len;
     let redos = state.redos.len;
     let count = count_records(

@@ -1,61 +1,57 @@
 // "Set down a line": eviction. Its ULog words add redo entries, for which the oldest are logged where places lack; all its words become Clean.
 ghost use mathlib.Core.Path.{_≡_};
-ghost use mathlib.Core.List.{[], _∷_, _++_};
-ghost use Prim.Native.Nat.{_+_, _-_, _/_, _≤_, _<_};
+ghost use mathlib.Core.List.{[], _++_};
+ghost use Prim.Native.Nat.{_+_, _-_, _/_, _%_, _≤_, _<_};
 ghost use lib.Dec.{eqb};
-ghost use lib.ListN.{length, drop};
+ghost use lib.ListN.{length, getD, drop};
 ghost use Rattle.parts.specs.States.{stateAt, ULog};
+ghost use Rattle.parts.specs.Waiting.{redosWaiting};
+ghost use Rattle.line_walks.specs.Walks.{addedAll, ulogEntries};
 ghost use Rattle.model.specs.Lists.{keep, upTo};
 ghost use Rattle.model.specs.Machine.{statesAs, changed, withLines, withRedo};
-ghost use Rattle.model.specs.Refusals.{numberOf, row, common as commonRows, unknownLine, isPending, pending, noRoom};
-ghost use Rattle.model.specs.Steps.{evicted as evictedOf, lacking as lackingOf, redoRecords, redosLogged};
+ghost use Rattle.model.specs.Refusals.{numberOf, common as commonRows};
+ghost use Rattle.model.specs.Steps.{evicted as evictedOf, lacking as lackingOf, redosLogged};
 ghost use Rattle.model.specs.Step.{evict, stepped};
-ghost use Rattle.steps.specs.View.{view, memory, shown};
-use crate::DONE;
-use crate::Fields;
-use crate::Made;
+ghost use Rattle.state.specs.View.{view, memory, shown};
+use crate::places::put_states;
 use crate::refusals::no_room;
-use crate::ways_out::cut;
-use crate::ways_out::refused;
+use crate::refusals::refused;
 use crate::writing_back::line_refusal;
+use line_walks::add_ulog;
 use logging::append_redos;
 use logging::count_ulog;
+use parts::Line;
+use parts::RedoBuffer;
+use state::DONE;
+use state::Fields;
+use state::Made;
+use state::cut;
 
 // How many of `len` redo entries have to be logged for those of a line to find places.
-fn lacking(len: usize, states: u16) -> usize
+fn lacking(len: usize, states: &[u16; 64], line: u64) -> usize
     requires { ⌜ len ≤ 32 ⌝ }
     ensures { λ r. ⌜ r ≤ len ⌝ }
-    ensures { λ r. ⌜ r ≡ len + length (keep (λ j. eqb (stateAt states j) ULog) (upTo 8)) - 32 ⌝ }
+    ensures { λ r. ⌜ r ≡ len + length (keep (λ j. eqb (stateAt (getD (now (states .entry)) (line % 64) 0) j) ULog) (upTo 8)) - 32 ⌝ }
 {
-    let all = len + count_ulog(states);
+    let at = (line % 64) as usize;
+    let all = len + count_ulog(states[at]);
     if 32 < all { all - 32 } else { 0 }
 }
 
-// The number under which an eviction is refused, or 0.
-fn evict_refusal(
-    state: Fields,
-    unfit: u64,
-    home: &[u64],
-    working: &[u64],
-    log: &[u64],
-    line: u64,
-) -> u64
-    requires { ⌜ unfit ≡ numberOf (commonRows (view state) (memory (now home) (now working) (now log))) ⌝ }
-    ensures { λ r. ⌜ r ≡ numberOf (commonRows (view state) (memory (now (home .entry)) (now (working .entry)) (now (log .entry))) ++
-        (unknownLine (view state) line ∷ row (isPending (view state) line) pending ∷ noRoom (view state)
-        (redoRecords (lackingOf (view state) (memory (now (home .entry)) (now (working .entry)) (now (log .entry))) line) (view state)))) ⌝ }
+// The redo buffer after `count` entries are logged and a line is set down, `first` being the line's first word.
+fn refill(redos: RedoBuffer, count: usize, line: Line, working: &[u64], first: usize) -> RedoBuffer
+    requires { ⌜ redos .len ≤ 32 ⌝ }
+    ensures { λ (r : RedoBuffer). ⌜ redosWaiting r ≡ addedAll (ulogEntries line (now (working .entry)) first) (drop count (redosWaiting redos)) ⌝ }
 {
-    let number = line_refusal(state, unfit, home, working, log, line);
-    if number != 0 {
-        return number;
-    }
-    let lines = state.lines;
-    let found = lines.line(line as usize);
-    let count = lacking(state.redos.len, found.states);
-    no_room(state.slots, state.head, state.tail, count as u64, 0)
+    let rest = if count != 0 {
+        redos.drop_oldest(count)
+    } else {
+        redos
+    };
+    add_ulog(rest, line, working, first)
 }
 
-// The state after an eviction for which `count` redo entries were logged.
+// The state after an eviction for which `count` redo entries were logged. A line whose words are all Clean stays as it is.
 fn set_down(mut state: Fields, working: &[u64], line: usize, count: usize) -> Fields
     requires { ⌜ (line < state .words / 8) × ((state .words ≤ 512) × (length (now working) ≡ state .words)) ⌝ }
     requires { ⌜ (count ≤ state .redos .len) × ((state .redos .len ≤ 32) × ((state .tail ≤ 281474976710656) ×
@@ -64,40 +60,44 @@ fn set_down(mut state: Fields, working: &[u64], line: usize, count: usize) -> Fi
         (withRedo (drop count (view state .redo) ++ evictedOf (view state) (memory [] (now (working .entry)) []) line)
         (redosLogged count (view state))) ⌝ }
 {
-    let lines = state.lines;
-    let redos = state.redos;
-    let rest = redos.drop_oldest(count);
-    let found = lines.line(line);
-    let grown = line_walks::add_ulog(rest, found, working, 8 * line);
-    let clean = line_walks::clean(lines, line);
-    state.redos = grown;
-    state.lines = clean;
+    let holders = state.lines.holders;
+    let dirty = state.lines.dirty;
+    let states = state.lines.states;
+    let evicted = Line {
+        holder: holders[line],
+        dirty: dirty[line],
+        states: states[line],
+    };
+    if evicted.states != 0 {
+        let redos = state.redos;
+        let grown = refill(redos, count, evicted, working, 8 * line);
+        state.redos = grown;
+        put_states(&mut state.lines.states, line, 0);
+    }
     state.tail = state.tail + count as u64;
     state
 }
 
-// The step, `unfit` being the number of the rows that every step tests.
+// The step, of a state that the common rows do not refuse.
 pub fn evicted(
     state: Fields,
-    unfit: u64,
     home: &[u64],
     working: &mut [u64],
     log: &mut [u64],
     supply: u64,
     line: u64,
 ) -> Made
-    requires { ⌜ unfit ≡ numberOf (commonRows (view state) (memory (now home) (now working) (now log))) ⌝ }
+    requires { ⌜ numberOf (commonRows (view state) (memory (now home) (now working) (now log))) ≡ 0 ⌝ }
     ensures { λ (r : Made). ⌜ shown r (now (home .entry)) (now (working .exit)) (now (log .exit))
         ≡ stepped (evict line) supply (view state) (memory (now (home .entry)) (now (working .entry)) (now (log .entry))) ⌝ }
 {
-    let number = evict_refusal(state, unfit, home, working, log, line);
+    let count = lacking(state.redos.len, &state.lines.states, line);
+    let room = no_room(state.slots, state.head, state.tail, count as u64, 0);
+    let number = line_refusal(state.words, &state.lines.states, line, room);
     if number != 0 {
         return refused(number, supply, state);
     }
     let at = line as usize;
-    let lines = state.lines;
-    let found = lines.line(at);
-    let count = lacking(state.redos.len, found.states);
     let left = append_redos(
         log,
         state.tail,

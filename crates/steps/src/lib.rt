@@ -1,47 +1,18 @@
 // The nine steps of document 01, as functions of a state by its fields. Each hands back what the model's definition of the step gives.
-use parts::Lines;
-use parts::RedoBuffer;
-use parts::UndoBuffer;
-
 mod beginning;
 mod committing;
 mod deleting;
 mod evicting;
 mod log_oldest;
 mod places;
-mod recovering;
 mod refusals;
 mod sizes;
 mod stepping;
 mod storing;
-mod ways_out;
 mod words;
 mod writing_back;
 
-pub use beginning::begin;
-pub use recovering::recover;
 pub use stepping::make;
-pub use ways_out::lost;
-
-// A state by its fields. `lost` is document 01's "dark". `lines` and the buffers may have places that are not in use.
-pub struct Fields {
-    pub lost: bool,
-    pub words: u16,
-    pub slots: u16,
-    pub head: u64,
-    pub tail: u64,
-    pub opened: [bool; 8],
-    pub lines: Lines,
-    pub undos: UndoBuffer,
-    pub redos: RedoBuffer,
-}
-
-// What a step hands back: the answer's number, the count left, and the state.
-pub struct Made {
-    pub answer: u64,
-    pub left: u64,
-    pub state: Fields,
-}
 
 // One of the nine steps.
 pub enum Step {
@@ -55,39 +26,3 @@ pub enum Step {
     DeleteOldest,
     Recover,
 }
-
-// "0 (done)" and "255 (cut)"
-pub const DONE: u64 = 0;
-
-pub const CUT: u64 = 255;
-
-// The refusals, by document 01's numbers. LOST is its "dark", INCONSISTENT its "unsound", EXHAUSTED its "worn".
-pub const SIZE: u64 = 1;
-
-pub const LOST: u64 = 2;
-
-pub const INCONSISTENT: u64 = 3;
-
-pub const THREAD: u64 = 4;
-
-pub const PLACE: u64 = 5;
-
-pub const IDLE: u64 = 6;
-
-pub const BUSY: u64 = 7;
-
-pub const HELD: u64 = 8;
-
-pub const PENDING: u64 = 9;
-
-pub const FULL: u64 = 10;
-
-pub const EXHAUSTED: u64 = 11;
-
-pub const NOTHING: u64 = 12;
-
-pub const HEAD: u64 = 13;
-
-pub const DAMAGED: u64 = 14;
-
-pub const NEEDED: u64 = 15;

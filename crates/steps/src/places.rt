@@ -19,6 +19,13 @@ pub fn put_flag(dirty: &mut [bool; 64], line: usize, flag: bool)
     dirty[line] = flag;
 }
 
+pub fn put_states(states: &mut [u16; 64], line: usize, new: u16)
+    requires { ⌜ line < 64 ⌝ }
+    ensures { λ _. ⌜ now (states .exit) ≡ set (now (states .entry)) line new ⌝ }
+{
+    states[line] = new;
+}
+
 pub fn put_thread(threads: &mut [u8; 16], at: usize, thread: u8)
     requires { ⌜ at < 16 ⌝ }
     ensures { λ _. ⌜ now (threads .exit) ≡ set (now (threads .entry)) at thread ⌝ }

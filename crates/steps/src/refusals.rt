@@ -7,13 +7,26 @@ ghost use Rattle.log.specs.Region.{numbers};
 ghost use Rattle.model.specs.Machine.{Machine};
 ghost use Rattle.model.specs.Consistent.{consistent};
 ghost use Rattle.model.specs.Refusals.{numberOf, common as commonRows};
-ghost use Rattle.steps.specs.View.{memory};
-use crate::EXHAUSTED;
-use crate::FULL;
-use crate::INCONSISTENT;
-use crate::LOST;
-use crate::SIZE;
+ghost use Rattle.state.specs.View.{memory};
 use crate::sizes::wrong_size;
+use state::EXHAUSTED;
+use state::FULL;
+use state::Fields;
+use state::INCONSISTENT;
+use state::LOST;
+use state::Made;
+use state::SIZE;
+
+// "State, buffers and count are unchanged"
+pub fn refused(number: u64, supply: u64, state: Fields) -> Made
+    ensures { λ (r : Made). ⌜ r ≡ record { answer = number; left = supply; state = state } ⌝ }
+{
+    Made {
+        answer: number,
+        left: supply,
+        state: state,
+    }
+}
 
 // A row of the table before the rest of them.
 pub fn refuse(applies: bool, number: u64, rest: u64) -> u64

@@ -2,8 +2,8 @@
 ghost use mathlib.Core.Path.{_≡_};
 ghost use Rattle.model.specs.Refusals.{wrongSize};
 ghost use Rattle.model.specs.Machine.{Machine};
-ghost use Rattle.steps.specs.View.{memory};
-use recovery::wrong_lengths;
+ghost use Rattle.state.specs.View.{memory};
+use state::wrong_lengths;
 
 // A length is wrong, or, unless the state is lost, differs from its W or L.
 pub fn wrong_size(

@@ -1,12 +1,11 @@
-// A step given as a value: what every step tests, once, and then the step itself.
+// A step given as a value: what comes before its own rows, once for all steps, and then the step itself.
 ghost use mathlib.Core.Path.{_≡_};
+ghost use Rattle.model.specs.Machine.{Machine};
 ghost use Rattle.model.specs.Consistent.{consistent};
-ghost use Rattle.model.specs.Refusals.{numberOf, common as commonRows};
+ghost use Rattle.model.specs.Refusals.{numberOf};
 ghost use Rattle.model.specs.Step.{stepped};
-ghost use Rattle.steps.specs.View.{view, memory, shown};
-ghost use Rattle.steps.specs.Steps.{stepOf};
-use crate::Fields;
-use crate::Made;
+ghost use Rattle.state.specs.View.{view, memory, shown};
+ghost use Rattle.steps.specs.Steps.{stepOf, early};
 use crate::Step;
 use crate::beginning::begun;
 use crate::committing::committed;
@@ -14,53 +13,67 @@ use crate::deleting::deleted;
 use crate::evicting::evicted;
 use crate::log_oldest::redo_logged;
 use crate::log_oldest::undo_logged;
-use crate::recovering::recover;
 use crate::refusals::common;
+use crate::refusals::refuse;
+use crate::refusals::refused;
 use crate::storing::stored;
 use crate::writing_back::written_back;
 use consistency::is_consistent;
+use recovery::recover;
+use state::Fields;
+use state::INCONSISTENT;
+use state::LOST;
+use state::Made;
 
-// The step, `unfit` being the number under which every step that is lent the buffers is refused, or 0.
+// The number of the rows that come before a step's own, or 0; `sound` says whether the state is consistent. A recovery has none, and a
+// begin is lent no buffers.
+fn unfit(
+    step: Step,
+    lost: bool,
+    words: u16,
+    slots: u16,
+    head: u64,
+    sound: bool,
+    home: &[u64],
+    working: &[u64],
+    log: &[u64],
+) -> u64
+    ensures { λ r. ⌜ ((m : Machine) → m .lost ≡ lost → m .words ≡ words → m .slots ≡ slots → m .head ≡ head → sound ≡ consistent m
+        → r ≡ numberOf (early (stepOf step) m (memory (now (home .entry)) (now (working .entry)) (now (log .entry))))) ⌝ }
+{
+    match step {
+        Step::Begin { thread: _ } => refuse(lost, LOST, refuse(!sound, INCONSISTENT, 0)),
+        Step::Recover => 0,
+        _ => common(lost, words, slots, head, sound, home, working, log),
+    }
+}
+
+// The step, if none of these rows refuses it.
 fn made(
     state: Fields,
     step: Step,
-    sound: bool,
-    unfit: u64,
     home: &mut [u64],
     working: &mut [u64],
     log: &mut [u64],
     supply: u64,
 ) -> Made
-    requires { ⌜ sound ≡ consistent (view state) ⌝ }
-    requires { ⌜ unfit ≡ numberOf (commonRows (view state) (memory (now home) (now working) (now log))) ⌝ }
+    requires { ⌜ numberOf (early (stepOf step) (view state) (memory (now home) (now working) (now log))) ≡ 0 ⌝ }
     ensures { λ (r : Made). ⌜ shown r (now (home .exit)) (now (working .exit)) (now (log .exit))
         ≡ stepped (stepOf step) supply (view state) (memory (now (home .entry)) (now (working .entry)) (now (log .entry))) ⌝ }
 {
     match step {
-        Step::Begin { thread } => begun(state, sound, supply, thread),
+        Step::Begin { thread } => begun(state, supply, thread),
         Step::Store {
             thread,
             word,
             value,
-        } => {
-            stored(
-                state,
-                unfit,
-                home,
-                working,
-                log,
-                supply,
-                thread,
-                word,
-                value,
-            )
-        }
-        Step::LogUndo => undo_logged(state, unfit, home, working, log, supply),
-        Step::LogRedo => redo_logged(state, unfit, home, working, log, supply),
-        Step::Evict { line } => evicted(state, unfit, home, working, log, supply, line),
-        Step::WriteBack { line } => written_back(state, unfit, home, working, log, supply, line),
-        Step::Commit { thread } => committed(state, unfit, home, working, log, supply, thread),
-        Step::DeleteOldest => deleted(state, unfit, home, working, log, supply),
+        } => stored(state, home, working, log, supply, thread, word, value),
+        Step::LogUndo => undo_logged(state, home, working, log, supply),
+        Step::LogRedo => redo_logged(state, home, working, log, supply),
+        Step::Evict { line } => evicted(state, home, working, log, supply, line),
+        Step::WriteBack { line } => written_back(state, home, working, log, supply, line),
+        Step::Commit { thread } => committed(state, home, working, log, supply, thread),
+        Step::DeleteOldest => deleted(state, home, working, log, supply),
         Step::Recover => recover(home, working, log, supply),
     }
 }
@@ -99,7 +112,8 @@ pub fn make(
         &redo_threads,
         &redo_words,
     );
-    let unfit = common(
+    let number = unfit(
+        step,
         state.lost,
         state.words,
         state.slots,
@@ -109,5 +123,8 @@ pub fn make(
         working,
         log,
     );
-    made(state, step, sound, unfit, home, working, log, supply)
+    if number != 0 {
+        return refused(number, supply, state);
+    }
+    made(state, step, home, working, log, supply)
 }

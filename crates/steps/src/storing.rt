@@ -1,7 +1,7 @@
 // "Store t, word, value": the line is claimed, and another value is filed by the word's state.
 ghost use mathlib.Core.Path.{_≡_};
 ghost use mathlib.Core.Bool.{cond, _&&_, not};
-ghost use mathlib.Core.List.{[], _∷_, _++_};
+ghost use mathlib.Core.List.{[], _∷_};
 ghost use Prim.Native.Nat.{ℕ, _+_, _-_, _/_, _%_, _≤_, _<_};
 ghost use lib.Dec.{eqb, ltb};
 ghost use lib.ListN.{getD};
@@ -11,14 +11,7 @@ ghost use Rattle.model.specs.Machine.{Machine, Memory, holderIn};
 ghost use Rattle.model.specs.Refusals.{numberOf, common as commonRows, unknownThread, unknownWord};
 ghost use Rattle.model.specs.Step.{store, stepped};
 ghost use Rattle.model.specs.Steps.{storeLogs, storeNext};
-ghost use Rattle.steps.specs.View.{view, memory, shown};
-use crate::DONE;
-use crate::Fields;
-use crate::HELD;
-use crate::IDLE;
-use crate::Made;
-use crate::PLACE;
-use crate::THREAD;
+ghost use Rattle.state.specs.View.{view, memory, shown};
 use crate::places::find;
 use crate::places::put_flag;
 use crate::places::put_holder;
@@ -27,8 +20,7 @@ use crate::places::put_value;
 use crate::places::put_word;
 use crate::refusals::no_room;
 use crate::refusals::refuse;
-use crate::ways_out::cut;
-use crate::ways_out::refused;
+use crate::refusals::refused;
 use crate::words::holder_of;
 use crate::words::state_of;
 use crate::words::undos_logged;
@@ -36,6 +28,14 @@ use line_walks::mark;
 use logging::append_undos;
 use parts::Entry;
 use parts::Lines;
+use state::DONE;
+use state::Fields;
+use state::HELD;
+use state::IDLE;
+use state::Made;
+use state::PLACE;
+use state::THREAD;
+use state::cut;
 
 // The two-bit states that a store tells apart.
 const CLEAN: u64 = 0;
@@ -112,14 +112,10 @@ pub fn next_state(mut state: Fields, entry: Entry, count: usize) -> Fields
     state
 }
 
-// The number of the rows that `unfit` is of, or of an unknown thread or word after them, or 0.
-pub fn early_refusal(unfit: u64, words: u16, thread: u64, word: u64) -> u64
-    ensures { λ r. ⌜ ((m : Machine) (mem : Memory) → m .words ≡ words → unfit ≡ numberOf (commonRows m mem)
-        → r ≡ numberOf (commonRows m mem ++ (unknownThread thread ∷ unknownWord m word ∷ []))) ⌝ }
+// The number of an unknown thread or word, or 0.
+pub fn early_refusal(words: u16, thread: u64, word: u64) -> u64
+    ensures { λ r. ⌜ ((m : Machine) → m .words ≡ words → r ≡ numberOf (unknownThread thread ∷ unknownWord m word ∷ [])) ⌝ }
 {
-    if unfit != 0 {
-        return unfit;
-    }
     refuse(7 < thread, THREAD, refuse(words as u64 <= word, PLACE, 0))
 }
 
@@ -136,10 +132,9 @@ pub fn late_refusal(idle: bool, taken: bool, count: usize, slots: u16, head: u64
     )
 }
 
-// The step, `unfit` being the number of the rows that every step tests.
+// The step, of a state that the common rows do not refuse.
 pub fn stored(
     state: Fields,
-    unfit: u64,
     home: &[u64],
     working: &mut [u64],
     log: &mut [u64],
@@ -148,11 +143,11 @@ pub fn stored(
     word: u64,
     value: u64,
 ) -> Made
-    requires { ⌜ unfit ≡ numberOf (commonRows (view state) (memory (now home) (now working) (now log))) ⌝ }
+    requires { ⌜ numberOf (commonRows (view state) (memory (now home) (now working) (now log))) ≡ 0 ⌝ }
     ensures { λ (r : Made). ⌜ shown r (now (home .entry)) (now (working .exit)) (now (log .exit))
         ≡ stepped (store thread word value) supply (view state) (memory (now (home .entry)) (now (working .entry)) (now (log .entry))) ⌝ }
 {
-    let early = early_refusal(unfit, state.words, thread, word);
+    let early = early_refusal(state.words, thread, word);
     if early != 0 {
         return refused(early, supply, state);
     }

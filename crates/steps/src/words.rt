@@ -4,9 +4,10 @@ ghost use Prim.Native.Nat.{ℕ, _/_, _≤_, _<_};
 ghost use Rattle.parts.specs.Lines.{firstLines};
 ghost use Rattle.model.specs.Machine.{stateIn, holderIn};
 ghost use Rattle.model.specs.Steps.{undosLogged};
-ghost use Rattle.steps.specs.View.{view};
-use crate::Fields;
+ghost use Rattle.state.specs.View.{view};
+use line_walks::mark_logged;
 use parts::Lines;
+use state::Fields;
 
 // The state of a word, by the states of the lines; n is the number of lines in use.
 pub fn state_of(states: &[u16; 64], word: u16) -> u64
@@ -26,17 +27,15 @@ pub fn holder_of(holders: &[u8; 64], word: u16) -> u8
 }
 
 // The state after its `count` oldest undo+redo entries are logged.
-pub fn undos_logged(state: Fields, count: usize) -> Fields
+pub fn undos_logged(mut state: Fields, count: usize) -> Fields
     requires { ⌜ (count ≤ state .undos .len) × ((state .undos .len ≤ 16) × ((state .words ≤ 512) × (state .tail ≤ 281474976710656))) ⌝ }
     ensures { λ (r : Fields). ⌜ view r ≡ undosLogged count (view state) ⌝ }
 {
+    let words = state.undos.words;
+    mark_logged(&mut state.lines.states, &words, count);
     let undos = state.undos;
-    let lines = state.lines;
-    let mut next = state;
     let rest = undos.drop_oldest(count);
-    let logged = line_walks::all_logged(lines, undos, count);
-    next.undos = rest;
-    next.lines = logged;
-    next.tail = state.tail + count as u64;
-    next
+    state.undos = rest;
+    state.tail = state.tail + count as u64;
+    state
 }

@@ -1,7 +1,10 @@
--- `deleting::dirty_of` meets its contract: past the last flag the default is read.
-use mathlib.Core.Path.{sym}
-use mathlib.Core.Bool.{false}
-use lib.ListN.{List·getD-eq-default}
+-- `deleting::dirty_of` meets its contract: past the lines in use, and past the last flag, the default is read.
+use Prim.Native.Nat.{_/_}
+use mathlib.Core.Bool.{true, false}
+use borrow.Author.Tests.{ltb-true}
+use lib.Dec.{ltb}
+use Rattle.model.proofs.Lists.{both-right}
+use Rattle.recovery.proofs.DeleteRows.{word-flag}
 use borrow.Author.Needs.{needs}
 use Rattle.recovery.proofs.deleting.dirty_of.Statement.{statement}
 use Rattle.recovery.proofs.deleting.dirty_of.Tie as tie
@@ -9,14 +12,23 @@ use Rattle.recovery.proofs.deleting.dirty_of.Tie as tie
 cast-at : tie.Need-cast-at
 cast-at c = search needs
 
+cast-lines : tie.Need-cast-lines
+cast-lines c = search needs
+
 shared-slice-read-result : tie.Need-shared-slice-read-result
-shared-slice-read-result c = search needs
+shared-slice-read-result c =
+    let a = c .before .before .args in
+    ltb-true _ _ (both-right (ltb (a .word / 8) (a .words / 8)) _ (c .before .if1 .taken))
 
 returns : tie.Need-returns
-returns c = search needs
+returns c s e f =
+    let a = c .before .before .args in
+    word-flag s (a .words) (a .word) (a .dirty .now) true e f (c .before .if1 .taken)
 
 returns-2 : tie.Need-returns-2
-returns-2 c = sym (List·getD-eq-default (c .before .args .dirty .now) false (c .if1 .left))
+returns-2 c s e f =
+    let a = c .before .args in
+    word-flag s (a .words) (a .word) (a .dirty .now) false e f (c .if1 .left)
 
 pub dirty-of-spec : {M : Type 1} → statement M
-dirty-of-spec = tie.close (tie.spec cast-at shared-slice-read-result returns returns-2)
+dirty-of-spec = tie.close (tie.spec cast-at cast-lines shared-slice-read-result returns returns-2)

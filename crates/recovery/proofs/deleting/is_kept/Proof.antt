@@ -10,7 +10,7 @@ dirty-of-requires : tie.Need-dirty-of-requires
 dirty-of-requires c κs = search needs
 
 returns : tie.Need-returns
-returns c = rw (c .before .has-commit .ensures, c .dirty-of .ensures)
+returns c s e f = rw (c .before .has-commit .ensures, c .dirty-of .ensures s e f)
 
 pub is-kept-spec : {M : Type 1} → statement M
 is-kept-spec = tie.close (tie.spec has-commit-requires dirty-of-requires returns)

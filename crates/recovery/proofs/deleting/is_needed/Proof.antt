@@ -1,4 +1,5 @@
 -- `deleting::is_needed` meets its contract: each arm of the match asks what its type of record is asked.
+use Rattle.state.specs.View.{view}
 use Rattle.recovery.proofs.DeleteRows.{needed-read}
 use borrow.Author.Needs.{needs}
 use Rattle.recovery.proofs.deleting.is_needed.Statement.{statement}
@@ -26,22 +27,22 @@ enum-told-2 : tie.Need-enum-told-2
 enum-told-2 c = search needs
 
 returns : tie.Need-returns
-returns c =
-    needed-read _ _ _ _ _ _ (c .before .before .before .before .before .oldest .given .1)
+returns c s e f =
+    needed-read (view s) _ _ _ _ _ (c .before .before .before .before .before .oldest .given .1)
     (c .before .before .entry .given .1)
-    (c .is-kept .ensures)
+    (c .is-kept .ensures s e f)
 
 returns-2 : tie.Need-returns-2
-returns-2 c =
-    needed-read _ _ _ _ _ _ (c .before .before .before .before .before .oldest .given .1)
+returns-2 c s e f =
+    needed-read (view s) _ _ _ _ _ (c .before .before .before .before .before .oldest .given .1)
     (c .before .before .entry2 .given .1)
-    (c .is-kept2 .ensures)
+    (c .is-kept2 .ensures s e f)
 
 returns-3 : tie.Need-returns-3
-returns-3 c = search needs
+returns-3 c s e f = search needs
 
 returns-4 : tie.Need-returns-4
-returns-4 c = search needs
+returns-4 c s e f = search needs
 
 pub is-needed-spec : {M : Type 1} → statement M
 is-needed-spec =

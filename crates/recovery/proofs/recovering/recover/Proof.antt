@@ -3,7 +3,8 @@ use mathlib.Core.Path.{_≡_, refl, sym, _∙_}
 use native.Mathlib.Omega.{arith}
 use Rattle.model.specs.Machine.{Memory}
 use Rattle.model.specs.Refusals.{numberOf}
-use Rattle.recovery.specs.Outcome.{memory, unreadableRows}
+use Rattle.state.specs.View.{memory}
+use Rattle.recovery.specs.Recovering.{unreadableRows}
 use Rattle.recovery.proofs.RecoverStep.{fits-unread, refused-unread, recover-refused, recover-damaged, recover-cut, recover-done}
 use borrow.Author.Needs.{needs}
 use Rattle.recovery.proofs.recovering.recover.Statement.{statement}
@@ -12,8 +13,8 @@ use Rattle.recovery.proofs.recovering.recover.Tie as tie
 unreadable-requires : tie.Need-unreadable-requires
 unreadable-requires c κs = search needs
 
-ended-requires : tie.Need-ended-requires
-ended-requires c κs = search needs
+refused-requires : tie.Need-refused-requires
+refused-requires c κs = search needs
 
 same-length : tie.Need-same-length
 same-length c = search needs
@@ -28,10 +29,12 @@ returns : tie.Need-returns
 returns c =
     let a = c .before .before .before .before .before .before .before .before .before .args in
     let m = memory (a .home .now) (a .working .now) (a .log .now) in
-    recover-refused m (a .supply) _ _ (c .before .before .unreadable .result)
+    recover-refused m (a .supply) _ (c .before .before .unreadable .result)
     (refused-unread m _ (c .before .before .unreadable .ensures) (c .before .if1 .taken))
     (c .before .if1 .taken)
-    (c .ended .ensures)
+    (c .refused .ensures)
+    refl
+    refl
     refl
 
 -- the buffers at the start, where the log can be read
@@ -61,8 +64,8 @@ cast-slots c =
 replay-requires : tie.Need-replay-requires
 replay-requires c κs = search needs
 
-ended-requires-2 : tie.Need-ended-requires-2
-ended-requires-2 c κs = search needs
+refused-requires-2 : tie.Need-refused-requires-2
+refused-requires-2 c κs = search needs
 
 same-length-4 : tie.Need-same-length-4
 same-length-4 c = search needs
@@ -78,20 +81,17 @@ returns-2 c =
     let after = c .before .before .before .before in
     let read = after .before .before .before .before .before in
     let a = read .before .before .before .before .before .before .before .before .args in
-    recover-damaged (before read) (a .supply) _ _ (zero read) (after .replay .result) (after .replay .ensures .0) (after .replay .ensures .1)
+    recover-damaged (before read) (a .supply) _ (zero read) (after .replay .result) (after .replay .ensures .0) (after .replay .ensures .1)
     (c .before .if2 .taken)
-    (c .ended2 .ensures)
+    (c .refused2 .ensures)
     refl
     refl
 
 set-head-requires : tie.Need-set-head-requires
 set-head-requires c κs = search needs
 
-clear-requires : tie.Need-clear-requires
-clear-requires c κs = search needs
-
-ended-requires-3 : tie.Need-ended-requires-3
-ended-requires-3 c κs = search needs
+cut-requires : tie.Need-cut-requires
+cut-requires c κs = search needs
 
 same-length-7 : tie.Need-same-length-7
 same-length-7 c = search needs
@@ -104,22 +104,28 @@ same-length-9 c = search needs
 
 returns-3 : tie.Need-returns-3
 returns-3 c =
-    let headed = c .before .before .before .before .before .before .before .before .before in
+    let headed = c .before .before .before .before .before .before .before .before in
     let after = headed .before .before .before .before .before in
     let read = after .before .before .before .before .before in
     let a = read .before .before .before .before .before .before .before .before .args in
-    recover-cut (before read) (a .supply) _ _ (zero read) (after .replay .result) (after .replay .ensures .0) (after .replay .ensures .1)
+    recover-cut (before read) (a .supply) _ (zero read) (after .replay .result) (after .replay .ensures .0) (after .replay .ensures .1)
     (headed .before .before .if2 .left)
     (headed .set-head .ensures .1)
-    (c .before .before .before .before .before .if3 .taken)
-    (c .ended3 .ensures)
-    (c .before .before .before .clear .ensures)
+    (c .before .before .before .before .if3 .taken)
+    (c .before .before .cut .ensures .0)
+    (c .before .before .cut .ensures .1)
 
 copy-requires : tie.Need-copy-requires
 copy-requires c κs =
     let after = c .before .before .before .before .before .before .before .before .before .before .before in
     let read = after .before .before .before .before .before in
     fits-unread (before read) (zero read) .working ∙ sym (after .replay .kept .0)
+
+fresh-state-requires : tie.Need-fresh-state-requires
+fresh-state-requires c κs =
+    let after = c .before .before .before .before .before .before .before .before .before .before .before .before .before .before in
+    let read = after .before .before .before .before .before in
+    fits-unread (before read) (zero read) .width
 
 same-length-10 : tie.Need-same-length-10
 same-length-10 c = search needs
@@ -132,28 +138,28 @@ same-length-12 c = search needs
 
 returns-4 : tie.Need-returns-4
 returns-4 c =
-    let headed = c .before .before .before .before .before .before .before .before .before in
+    let headed = c .before .before .before .before .before .before .before .before .before .before in
     let after = headed .before .before .before .before .before in
     let read = after .before .before .before .before .before in
     let a = read .before .before .before .before .before .before .before .before .args in
     let counted = after .before .before .before .slots in
-    recover-done (before read) (a .supply) _ _ (zero read) (after .replay .result) (after .replay .ensures .0) (after .replay .ensures .1)
+    recover-done (before read) (a .supply) _ (zero read) (after .replay .result) (after .replay .ensures .0) (after .replay .ensures .1)
     (headed .before .before .if2 .left)
     (headed .set-head .ensures .1)
-    (headed .set-head .result)
+    (c .before .before .before .before .before .before .if3 .left)
     (counted .result)
     (counted .ensures)
-    (c .before .before .before .before .before .if3 .left)
-    (headed .set-head .ensures .0)
     refl
-    (c .before .before .copy .ensures)
+    (headed .set-head .ensures .0)
+    (c .fresh-state .ensures)
+    (c .before .before .before .copy .ensures)
 
 pub recover-spec : {M : Type 1} → statement M
 recover-spec =
     tie.close
     (tie.spec
     unreadable-requires
-    ended-requires
+    refused-requires
     same-length
     same-length-2
     same-length-3
@@ -162,19 +168,19 @@ recover-spec =
     slots-requires
     cast-slots
     replay-requires
-    ended-requires-2
+    refused-requires-2
     same-length-4
     same-length-5
     same-length-6
     returns-2
     set-head-requires
-    clear-requires
-    ended-requires-3
+    cut-requires
     same-length-7
     same-length-8
     same-length-9
     returns-3
     copy-requires
+    fresh-state-requires
     same-length-10
     same-length-11
     same-length-12

@@ -5,7 +5,7 @@ use borrow.Author.Tests.{lt-ltb, le-ltb}
 use lib.Dec.{ltb}
 use Rattle.log.specs.Region.{numbers, headOf}
 use Rattle.model.specs.Machine.{Memory}
-use Rattle.recovery.specs.Outcome.{memory}
+use Rattle.state.specs.View.{memory}
 use Rattle.recovery.proofs.RecoverStep.{unread-number}
 use borrow.Author.Needs.{needs}
 use Rattle.recovery.proofs.recovering.unreadable.Statement.{statement}

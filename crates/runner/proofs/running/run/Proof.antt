@@ -11,7 +11,7 @@ use Rattle.model.specs.Plan.{Outcome}
 use Rattle.model.specs.Step.{stepped}
 use Rattle.model.specs.Run.{Timed}
 use Rattle.machine.specs.View.{view, shown}
-use Rattle.steps.specs.View.{memory}
+use Rattle.state.specs.View.{memory}
 use Rattle.runner.specs.Running.{Script, script, timedAt, runnable, atFirst, reported}
 use Rattle.runner.proofs.StepsMade.{left-of, Alike, alike, Upto, upto-none, upto-more, upto-all, may-run, run-made, run-refused}
 use Rattle.runner.proofs.running.run.Statement.{statement}
@@ -168,7 +168,8 @@ loop-again c =
     let d = c .before .before .before .before .before .before .before .before in
     let o = d .before .before .before .before .before in
     let turn = o .before in
-    let a = turn .before .before .before .before .before .before .before .before .before .before .before .before .before .before .before .before .before .args in
+    let first = turn .before .before .before .before .before .before .before .before .before in
+    let a = first .before .before .before .before .before .before .before .before .args in
     let l = turn .before .loop in
     let u = l .inv in
     let h = turn .loop-test .taken in

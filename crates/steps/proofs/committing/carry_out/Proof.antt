@@ -4,7 +4,7 @@ use mathlib.Core.List.{List}
 use Prim.Native.Nat.{ℕ}
 use native.Mathlib.Omega.{arith}
 use borrow.Author.Needs.{needs}
-use Rattle.steps.specs.View.{view, memory}
+use Rattle.state.specs.View.{view, memory}
 use Rattle.steps.specs.Committing.{Allowed}
 use Rattle.steps.proofs.Commits.{Ready, ready, commit-done, commit-cut}
 use Rattle.steps.proofs.committing.carry_out.Statement.{statement}
@@ -21,7 +21,7 @@ is-ready : (s : tie.Start) (home : List ℕ)
     → Ready (a .t1) (a .thread) (a .supply) home (a .working .now) (a .log .now)
 is-ready s home allowed =
     let a = s .args in
-    ready (a .t1) (a .thread) (a .supply) home (a .working .now) (a .log .now) 0 (sym (allowed .common)) refl 0 (sym (allowed .others)) refl
+    ready (a .t1) (a .thread) (a .supply) home (a .working .now) (a .log .now) (allowed .common) 0 (sym (allowed .others)) refl
 
 cast-append-commit : tie.Need-cast-append-commit
 cast-append-commit c = omega

@@ -1,45 +1,106 @@
 -- `evicting::evicted` meets its contract: refused, cut, or done.
 use Prim.Native.Nat.{ℕ, _≤_}
 use mathlib.Core.Path.{_≡_}
-use mathlib.Core.Bool.{false}
 use mathlib.Core.List.{List, []}
 use native.Mathlib.Omega.{arith}
+use Rattle.model.specs.Machine.{Memory}
+use Rattle.model.specs.Refusals.{numberOf}
 use Rattle.model.specs.Steps.{evicted, lacking}
+use Rattle.model.proofs.Fit.{Fit}
 use Rattle.logging.proofs.Guards.{redos-appended}
-use Rattle.steps.specs.View.{view, memory}
+use Rattle.state.specs.View.{view, memory}
 use Rattle.steps.proofs.LineRows.{LineFit}
-use Rattle.steps.proofs.Eviction.{few-wait, lacking-by, evict-refused, evict-fit, evict-cut, evict-done}
+use Rattle.steps.proofs.Refused.{common-fit}
+use Rattle.steps.proofs.Eviction.{few-wait, lacking-by, rows, evict-number, evict-refused, evict-fit, evict-cut, evict-done}
 use borrow.Author.Needs.{needs}
 use Rattle.steps.proofs.evicting.evicted.Statement.{statement}
 use Rattle.steps.proofs.evicting.evicted.Tie as tie
 
--- what is known where it is not refused
-passed : (c : tie.Else1)
-    → let a = c .before .before .before .before .before .before .before .args in
-    LineFit (view (a .t1)) (memory (a .home .now) (a .working .now) (a .log .now)) (a .line)
-passed c =
-    let a = c .before .before .before .before .before .before .before .args in
-    let number = c .before .evict-refusal in
-    evict-fit (a .line) (a .supply) (a .t1) (memory (a .home .now) (a .working .now) (a .log .now)) (number .result) (number .ensures) (c .if1 .left)
+abbrev lent : tie.Start → Memory
+lent c = memory (c .args .home .now) (c .args .working .now) (c .args .log .now)
 
-few : (c : tie.Else1) → c .before .before .before .before .before .before .before .args .t1 .redos .len ≤ 32
-few c = few-wait (c .before .before .before .before .before .before .before .args .t1 .redos) (passed c .fits .clauses .redoSize)
+-- no common row applies
+fits : (c : tie.Start) → Fit (view (c .args .t1)) (lent c)
+fits c = common-fit (view (c .args .t1)) (lent c) (c .pre)
 
--- as many entries are logged as lack places
-lacks : (c : tie.After-lacking) (home log : List ℕ)
-    → let a = c .before .before .before .before .before .before .before .before .before .before .args in
-    c .lacking .result ≡ lacking (view (a .t1)) (memory home (a .working .now) log) (a .line)
-lacks c home log =
-    let a = c .before .before .before .before .before .before .before .before .before .before .args in
-    let line = c .before .line in
-    let below = passed (c .before .before .before) .below in
-    lacking-by (a .t1) (a .line) (line .result) (line .ensures) below (memory home (a .working .now) log) (c .lacking .result) (c .lacking .ensures .1)
+few : (c : tie.Start) → c .args .t1 .redos .len ≤ 32
+few c = few-wait (c .args .t1 .redos) (fits c .clauses .redoSize)
 
-evict-refusal-requires : tie.Need-evict-refusal-requires
-evict-refusal-requires c κs = search needs
+-- where the step began, and where its count was taken
+abbrev start : tie.After-lacking → tie.Start
+start c = c .before .before .before .before .before .before
+
+abbrev counted : tie.After-line-refusal → tie.After-lacking
+counted c = c .before .before .before .before
+
+-- the number that was found is that of the step's rows
+number : (c : tie.After-line-refusal)
+    → let s = start (counted c) in
+    c .line-refusal .result ≡ numberOf (rows (s .args .line) (s .args .supply) (s .args .t1) (lent s))
+number c =
+    let s = start (counted c) in
+    let count = counted c .lacking in
+    let room = c .before .before .before .no-room in
+    evict-number (s .args .line) (s .args .supply) (s .args .t1) (lent s) (count .result) (room .result) (c .line-refusal .result) (s .pre)
+    (count .ensures .1) (count .ensures .0) (room .ensures) (c .line-refusal .ensures)
+
+-- it is not refused
+module _ (c : tie.Else1) where
+  abbrev taken : tie.After-lacking
+  taken = counted (c .before)
+
+  abbrev began : tie.Start
+  began = start taken
+
+  passed : LineFit (view (began .args .t1)) (lent began) (began .args .line)
+  passed =
+      evict-fit (began .args .line) (began .args .supply) (began .args .t1) (lent began) (c .before .line-refusal .result) (number (c .before))
+      (c .if1 .left)
+
+  -- as many entries are logged as lack places
+  lacks : (home log : List ℕ)
+      → taken .lacking .result ≡ lacking (view (began .args .t1)) (memory home (began .args .working .now) log) (began .args .line)
+  lacks home log =
+      lacking-by (began .args .t1) (began .args .line) (passed .below) (memory home (began .args .working .now) log) (taken .lacking .result)
+      (passed .narrow) (taken .lacking .ensures .1)
+
+lacking-requires : tie.Need-lacking-requires
+lacking-requires c κs = few (c .before .before .before .before .before)
+
+no-room-requires : tie.Need-no-room-requires
+no-room-requires c κs =
+    let f = fits (start c) in
+    let h = few (start c) in
+    (f .clauses .order, (f .clauses .span, (f .clauses .tail, omega (arith, c .lacking .ensures .0))))
+
+line-refusal-requires : tie.Need-line-refusal-requires
+line-refusal-requires c κs = search needs
 
 refused-requires : tie.Need-refused-requires
 refused-requires c κs = search needs
+
+returns : tie.Need-returns
+returns c =
+    let found = c .before .before in
+    let s = start (counted found) in
+    rw (c .refused .ensures)
+    (evict-refused (s .args .line) (s .args .supply) (s .args .t1) (lent s) (found .line-refusal .result) (number found) (c .before .if1 .taken))
+
+append-redos-requires : tie.Need-append-redos-requires
+append-redos-requires c κs = search needs
+
+-- where the records were appended, and before
+abbrev unrefused : tie.After-append-redos → tie.Else1
+unrefused c = c .before .before .before .before .before .before
+
+mul-if2 : tie.Need-mul-if2
+mul-if2 c =
+    let e = unrefused (c .before .before) in
+    let h = few (began e) in
+    omega (arith, taken e .lacking .ensures .0)
+
+cut-requires : tie.Need-cut-requires
+cut-requires c κs = search needs
 
 same-length : tie.Need-same-length
 same-length c = search needs
@@ -47,31 +108,25 @@ same-length c = search needs
 same-length-2 : tie.Need-same-length-2
 same-length-2 c = search needs
 
-returns : tie.Need-returns
-returns c =
-    let a = c .before .before .before .before .before .before .before .before .args in
-    let number = c .before .before .evict-refusal in
-    rw (c .refused .ensures)
-    (evict-refused (a .line) (a .supply) (a .t1) (memory (a .home .now) (a .working .now) (a .log .now)) (number .result) (number .ensures)
-    (c .before .if1 .taken))
+returns-2 : tie.Need-returns-2
+returns-2 c =
+    let ended = c .before .before in
+    let logged = ended .before .before .before .before .before in
+    let e = unrefused logged in
+    let s = began e in
+    let a = s .args in
+    let count = taken e .lacking in
+    let log = logged .append-redos in
+    evict-cut (a .line) (a .supply) (a .t1) (lent s) (e .before .line-refusal .result) (number (e .before)) (e .if1 .left)
+    (count .result) (lacks e (a .home .now) (a .log .now)) (count .ensures .0)
+    (log .last .0) (log .result) (redos-appended (count .result) (a .t1 .redos) (few s) (log .ensures))
+    (ended .cut .result) (ended .cut .last .0) (ended .before .before .if2 .taken) (ended .cut .ensures .0) (ended .cut .ensures .1)
 
-line-requires : tie.Need-line-requires
-line-requires c κs = search needs
-
-lacking-requires : tie.Need-lacking-requires
-lacking-requires c κs = few (c .before .before)
-
-append-redos-requires : tie.Need-append-redos-requires
-append-redos-requires c κs = search needs
-
-mul-if2 : tie.Need-mul-if2
-mul-if2 c =
-    let counted = c .before .before .before .before .before .before .before .before in
-    let h = few (counted .before .before .before) in
-    omega (arith, counted .lacking .ensures .0)
-
-cut-requires : tie.Need-cut-requires
-cut-requires c κs = search needs
+set-down-requires : tie.Need-set-down-requires
+set-down-requires c κs =
+    let e = unrefused (c .before .before .before .before) in
+    let f = passed e in
+    ((f .below, (f .narrow, f .fits .working)), (taken e .lacking .ensures .0, (few (began e), (f .fits .clauses .tail, lacks e [] []))))
 
 same-length-3 : tie.Need-same-length-3
 same-length-3 c = search needs
@@ -79,67 +134,36 @@ same-length-3 c = search needs
 same-length-4 : tie.Need-same-length-4
 same-length-4 c = search needs
 
-returns-2 : tie.Need-returns-2
-returns-2 c =
-    let ended = c .before .before in
-    let logged = ended .before .before .before .before .before in
-    let counted = logged .before .before .before .before .before .before in
-    let began = counted .before .before .before in
-    let number = began .before .evict-refusal in
-    let a = began .before .before .before .before .before .before .before .args in
-    let mem = memory (a .home .now) (a .working .now) (a .log .now) in
-    let log = logged .append-redos in
-    evict-cut (a .line) (a .supply) (a .t1) mem (number .result) (number .ensures) (began .if1 .left)
-    (counted .lacking .result) (lacks counted (a .home .now) (a .log .now)) (counted .lacking .ensures .0)
-    (log .last .0) (log .result) (redos-appended (counted .lacking .result) (a .t1 .redos) (few began) (log .ensures))
-    (ended .cut .result) (ended .cut .last .0) (ended .before .before .if2 .taken) (ended .cut .ensures .0) (ended .cut .ensures .1)
-
-set-down-requires : tie.Need-set-down-requires
-set-down-requires c κs =
-    let counted = c .before .before .before .before .before .before .before .before .before .before in
-    let began = counted .before .before .before in
-    let f = passed began in
-    ((f .below, (f .narrow, f .fits .working)), (counted .lacking .ensures .0, (few began, (f .fits .clauses .tail, lacks counted [] []))))
-
-same-length-5 : tie.Need-same-length-5
-same-length-5 c = search needs
-
-same-length-6 : tie.Need-same-length-6
-same-length-6 c = search needs
-
 returns-3 : tie.Need-returns-3
 unfolding evicted
 returns-3 c =
     let logged = c .before .before .before .before .before in
-    let counted = logged .before .before .before .before .before .before in
-    let began = counted .before .before .before in
-    let number = began .before .evict-refusal in
-    let a = began .before .before .before .before .before .before .before .args in
-    let mem = memory (a .home .now) (a .working .now) (a .log .now) in
+    let e = unrefused logged in
+    let s = began e in
+    let a = s .args in
+    let count = taken e .lacking in
     let log = logged .append-redos in
-    evict-done (a .line) (a .supply) (a .t1) mem (number .result) (number .ensures) (began .if1 .left)
-    (counted .lacking .result) (lacks counted (a .home .now) (a .log .now)) (counted .lacking .ensures .0)
-    (log .last .0) (log .result) (redos-appended (counted .lacking .result) (a .t1 .redos) (few began) (log .ensures))
+    evict-done (a .line) (a .supply) (a .t1) (lent s) (e .before .line-refusal .result) (number (e .before)) (e .if1 .left)
+    (count .result) (lacks e (a .home .now) (a .log .now)) (count .ensures .0)
+    (log .last .0) (log .result) (redos-appended (count .result) (a .t1 .redos) (few s) (log .ensures))
     (c .set-down .result) (c .before .before .if2 .left) (c .set-down .ensures)
 
 pub evicted-spec : {M : Type 1} → statement M
 evicted-spec =
     tie.close
     (tie.spec
-    evict-refusal-requires
-    refused-requires
-    same-length
-    same-length-2
-    returns
-    line-requires
     lacking-requires
+    no-room-requires
+    line-refusal-requires
+    refused-requires
+    returns
     append-redos-requires
     mul-if2
     cut-requires
-    same-length-3
-    same-length-4
+    same-length
+    same-length-2
     returns-2
     set-down-requires
-    same-length-5
-    same-length-6
+    same-length-3
+    same-length-4
     returns-3)

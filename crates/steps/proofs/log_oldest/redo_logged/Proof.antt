@@ -1,6 +1,5 @@
 -- `redo_logged` meets its contract: refused, cut, or done with the oldest redo entry logged.
 use mathlib.Core.Path.{_≡_, refl}
-use mathlib.Core.Bool.{false}
 use mathlib.Core.List.{List, _++_, map}
 use native.Mathlib.Omega.{arith}
 use borrow.Author.Needs.{needs}
@@ -10,13 +9,14 @@ use Rattle.parts.specs.Waiting.{redosWaiting}
 use Rattle.parts.proofs.Waiting.{redoAt}
 use Rattle.model.specs.Machine.{Memory}
 use Rattle.model.specs.Plan.{append, planned}
-use Rattle.model.specs.Refusals.{unless, common}
+use Rattle.model.specs.Refusals.{unless, numberOf, common}
 use Rattle.model.specs.Steps.{redoRecord, redosLogged, logRedoPlan}
 use Rattle.model.specs.Step.{logRedo, planOf}
 use Rattle.logging.proofs.Guards.{redos-appended}
-use Rattle.steps.specs.declared.Fields.{Fields}
-use Rattle.steps.specs.View.{view, memory}
-use Rattle.steps.proofs.LoggingOldest.{ownRows, oldest, count-oldest, Ready, ready, oldest-refused, oldest-cut, oldest-done, rest-waits, oneLogged}
+use Rattle.state.specs.declared.Fields.{Fields}
+use Rattle.state.specs.View.{view, memory}
+use Rattle.steps.proofs.LoggingOldest.{ownRows, oldest, count-oldest, rest-waits, oneLogged, in-log, Ready, ready}
+use Rattle.steps.proofs.LoggingOldest.{oldest-refused, oldest-cut, oldest-done}
 use Rattle.steps.proofs.log_oldest.redo_logged.Statement.{statement}
 use Rattle.steps.proofs.log_oldest.redo_logged.Tie as tie
 
@@ -33,10 +33,16 @@ plan s mem = refl
 
 -- where the step began, and where it was not refused
 abbrev start : tie.After-refusal → tie.Start
-start c = c .before .before .before .before .before .before
+start c = c .before .before .before .before
 
 abbrev passed : tie.After-append-redos → tie.Else1
 passed c = c .before .before .before .before .before .before
+
+-- the number is that of its own rows
+number : (c : tie.After-refusal) → let s = start c .args .t1 in c .refusal .result ≡ numberOf (ownRows (view s) (records s))
+number c =
+    let s = start c .args .t1 in
+    c .refusal .ensures (view s) (records s) refl refl refl (count-oldest redoRecord (s .redos .len) (redoAt (s .redos)))
 
 -- what is known once it is not refused
 known : (c : tie.Else1) → let a = start (c .before) .args in
@@ -46,19 +52,15 @@ known c =
     let s = a .t1 in
     ready redoRecord 32 (s .redos .len) (redoAt (s .redos)) (view s) (memory (a .home .now) (a .working .now) (a .log .now)) (c .before .refusal .result)
     (λ d. omega (arith, d .redoSize))
-    (c .before .refusal .ensures (records s) (count-oldest redoRecord (s .redos .len) (redoAt (s .redos)))) (c .if1 .left)
+    (start (c .before) .pre) (number (c .before)) (c .if1 .left)
 
 refusal-requires : tie.Need-refusal-requires
-refusal-requires c κs = c .before .before .before .before .before .pre
+refusal-requires c κs =
+    let s = c .before .before .before in
+    in-log (view (s .args .t1)) (memory (s .args .home .now) (s .args .working .now) (s .args .log .now)) (s .pre)
 
 refused-requires : tie.Need-refused-requires
 refused-requires c κs = search needs
-
-same-length : tie.Need-same-length
-same-length c = search needs
-
-same-length-2 : tie.Need-same-length-2
-same-length-2 c = search needs
 
 returns : tie.Need-returns
 returns c =
@@ -68,8 +70,7 @@ returns c =
     let mem = memory (a .home .now) (a .working .now) (a .log .now) in
     rw (c .refused .ensures)
     (oldest-refused logRedo redoRecord 32 (s .redos .len) (redoAt (s .redos)) (a .supply) (view s) mem (redosLogged 1 (view s)) (plan s mem)
-    (refused .refusal .result)
-    (refused .refusal .ensures (records s) (count-oldest redoRecord (s .redos .len) (redoAt (s .redos)))) (c .before .if1 .taken) refl)
+    (refused .refusal .result) (start refused .pre) (number refused) (c .before .if1 .taken) refl)
 
 append-redos-requires : tie.Need-append-redos-requires
 append-redos-requires c κs = search needs
@@ -77,11 +78,11 @@ append-redos-requires c κs = search needs
 cut-requires : tie.Need-cut-requires
 cut-requires c κs = search needs
 
-same-length-3 : tie.Need-same-length-3
-same-length-3 c = search needs
+same-length : tie.Need-same-length
+same-length c = search needs
 
-same-length-4 : tie.Need-same-length-4
-same-length-4 c = search needs
+same-length-2 : tie.Need-same-length-2
+same-length-2 c = search needs
 
 returns-2 : tie.Need-returns-2
 returns-2 c =
@@ -106,11 +107,8 @@ add-state c =
     let k = known (passed (c .before .before .before .before .before)) in
     omega (arith, k .fits .clauses .tail)
 
-same-length-5 : tie.Need-same-length-5
-same-length-5 c = search needs
-
-same-length-6 : tie.Need-same-length-6
-same-length-6 c = search needs
+same-length-3 : tie.Need-same-length-3
+same-length-3 c = search needs
 
 returns-3 : tie.Need-returns-3
 returns-3 c =
@@ -137,16 +135,13 @@ redo-logged-spec =
     (tie.spec
     refusal-requires
     refused-requires
-    same-length
-    same-length-2
     returns
     append-redos-requires
     cut-requires
-    same-length-3
-    same-length-4
+    same-length
+    same-length-2
     returns-2
     drop-oldest-requires
     add-state
-    same-length-5
-    same-length-6
+    same-length-3
     returns-3)

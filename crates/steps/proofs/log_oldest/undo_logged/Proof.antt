@@ -1,26 +1,26 @@
 -- `undo_logged` meets its contract: refused, cut, or done with the oldest undo+redo entry logged.
-use Prim.Native.Nat.{_/_}
+use Prim.Native.Nat.{ℕ, _/_}
 use mathlib.Core.Path.{_≡_, refl, ap, _∙_}
-use mathlib.Core.Bool.{true}
 use mathlib.Core.List.{List, _++_, map}
 use native.Mathlib.Omega.{arith}
 use borrow.Author.Needs.{needs}
-use lib.ListN.{take, drop}
+use lib.ListN.{length, take, drop}
 use Rattle.log.specs.declared.Record.{Record}
-use Rattle.parts.specs.declared.Entry.{Entry}
 use Rattle.parts.specs.Lines.{firstLines}
 use Rattle.parts.specs.Waiting.{undosWaiting}
+use Rattle.parts.proofs.FirstLines.{WholeLines}
 use Rattle.parts.proofs.Waiting.{undoAt}
 use Rattle.model.specs.Machine.{Memory, allLogged}
 use Rattle.model.specs.Plan.{append, planned}
-use Rattle.model.specs.Refusals.{unless, common}
+use Rattle.model.specs.Refusals.{unless, numberOf, common}
 use Rattle.model.specs.Steps.{undoRedoRecord, undosLogged, logUndoPlan}
 use Rattle.model.specs.Step.{logUndo, planOf}
 use Rattle.logging.proofs.Guards.{undos-appended}
-use Rattle.line_walks.proofs.WordStates.{oldest-all}
-use Rattle.steps.specs.declared.Fields.{Fields}
-use Rattle.steps.specs.View.{view, memory}
-use Rattle.steps.proofs.LoggingOldest.{ownRows, oldest, count-oldest, Ready, ready, oldest-refused, oldest-cut, oldest-done, rest-waits, oneLogged}
+use Rattle.line_walks.proofs.WordStates.{withStates, logged-lines}
+use Rattle.state.specs.declared.Fields.{Fields}
+use Rattle.state.specs.View.{view, memory}
+use Rattle.steps.proofs.LoggingOldest.{ownRows, oldest, count-oldest, rest-waits, oneLogged, in-log, Ready, ready}
+use Rattle.steps.proofs.LoggingOldest.{oldest-refused, oldest-cut, oldest-done}
 use Rattle.steps.proofs.log_oldest.undo_logged.Statement.{statement}
 use Rattle.steps.proofs.log_oldest.undo_logged.Tie as tie
 
@@ -37,10 +37,23 @@ plan s mem = refl
 
 -- where the step began, and where it was not refused
 abbrev start : tie.After-refusal → tie.Start
-start c = c .before .before .before .before .before .before
+start c = c .before .before .before .before
 
 abbrev passed : tie.After-append-undos → tie.Else1
 passed c = c .before .before .before .before .before .before .before
+
+-- the arrays of the state have their places
+whole-lines : (c : tie.Start) → WholeLines (c .args .t1 .lines)
+whole-lines c = search needs
+
+places : (c : tie.Start) → length (c .args .t1 .undos .words) ≡ 16
+places c = search needs
+
+-- the number is that of its own rows
+number : (c : tie.After-refusal) → let s = start c .args .t1 in c .refusal .result ≡ numberOf (ownRows (view s) (records s))
+number c =
+    let s = start c .args .t1 in
+    c .refusal .ensures (view s) (records s) refl refl refl (count-oldest undoRedoRecord (s .undos .len) (undoAt (s .undos)))
 
 -- what is known once it is not refused
 known : (c : tie.Else1) → let a = start (c .before) .args in
@@ -50,19 +63,15 @@ known c =
     let s = a .t1 in
     ready undoRedoRecord 16 (s .undos .len) (undoAt (s .undos)) (view s) (memory (a .home .now) (a .working .now) (a .log .now)) (c .before .refusal .result)
     (λ d. omega (arith, d .undoSize))
-    (c .before .refusal .ensures (records s) (count-oldest undoRedoRecord (s .undos .len) (undoAt (s .undos)))) (c .if1 .left)
+    (start (c .before) .pre) (number (c .before)) (c .if1 .left)
 
 refusal-requires : tie.Need-refusal-requires
-refusal-requires c κs = c .before .before .before .before .before .pre
+refusal-requires c κs =
+    let s = c .before .before .before in
+    in-log (view (s .args .t1)) (memory (s .args .home .now) (s .args .working .now) (s .args .log .now)) (s .pre)
 
 refused-requires : tie.Need-refused-requires
 refused-requires c κs = search needs
-
-same-length : tie.Need-same-length
-same-length c = search needs
-
-same-length-2 : tie.Need-same-length-2
-same-length-2 c = search needs
 
 returns : tie.Need-returns
 returns c =
@@ -72,8 +81,7 @@ returns c =
     let mem = memory (a .home .now) (a .working .now) (a .log .now) in
     rw (c .refused .ensures)
     (oldest-refused logUndo undoRedoRecord 16 (s .undos .len) (undoAt (s .undos)) (a .supply) (view s) mem (undosLogged 1 (view s)) (plan s mem)
-    (refused .refusal .result)
-    (refused .refusal .ensures (records s) (count-oldest undoRedoRecord (s .undos .len) (undoAt (s .undos)))) (c .before .if1 .taken) refl)
+    (refused .refusal .result) (start refused .pre) (number refused) (c .before .if1 .taken) refl)
 
 append-undos-requires : tie.Need-append-undos-requires
 append-undos-requires c κs = search needs
@@ -81,11 +89,11 @@ append-undos-requires c κs = search needs
 cut-requires : tie.Need-cut-requires
 cut-requires c κs = search needs
 
-same-length-3 : tie.Need-same-length-3
-same-length-3 c = search needs
+same-length : tie.Need-same-length
+same-length c = search needs
 
-same-length-4 : tie.Need-same-length-4
-same-length-4 c = search needs
+same-length-2 : tie.Need-same-length-2
+same-length-2 c = search needs
 
 returns-2 : tie.Need-returns-2
 returns-2 c =
@@ -102,31 +110,29 @@ returns-2 c =
     (e .last .0) (e .result) (ended .before .before .if2 .taken) (undos-appended 1 (s .undos) (known begun .short) (e .ensures))
     (d .ensures .0) (d .ensures .1)
 
+mark-logged-requires : tie.Need-mark-logged-requires
+mark-logged-requires c κs = search needs
+
 drop-oldest-requires : tie.Need-drop-oldest-requires
 drop-oldest-requires c κs = search needs
 
-all-logged-requires : tie.Need-all-logged-requires
-all-logged-requires c κs = search needs
-
 add-state : tie.Need-add-state
 add-state c =
-    let k = known (passed (c .before .before .before .before .before .before .before)) in
+    let k = known (passed (c .before .before .before .before .before .before .before .before .before)) in
     omega (arith, k .fits .clauses .tail)
 
-same-length-5 : tie.Need-same-length-5
-same-length-5 c = search needs
-
-same-length-6 : tie.Need-same-length-6
-same-length-6 c = search needs
+same-length-3 : tie.Need-same-length-3
+same-length-3 c = search needs
 
 returns-3 : tie.Need-returns-3
 returns-3 c =
-    let taken = c .before .before .before .before in
-    let dropped = c .before .drop-oldest in
-    let marked = c .all-logged in
+    let dropped = c .drop-oldest in
+    let marked = c .before .before .mark-logged in
+    let taken = c .before .before .before .before .before .before in
     let appended = taken .before .before .before in
     let begun = passed appended in
-    let a = start (begun .before) .args in
+    let b = start (begun .before) in
+    let a = b .args in
     let s = a .t1 in
     let mem = memory (a .home .now) (a .working .now) (a .log .now) in
     let e = appended .append-undos in
@@ -134,10 +140,10 @@ returns-3 c =
     let rest : undosWaiting (dropped .result) ≡ drop 1 (undosWaiting (s .undos)) =
     rest-waits 16 1 (s .undos .len) (undoAt (s .undos)) (undosWaiting (dropped .result)) (k .short) (dropped .ensures) in
     let n = s .words / 8 in
-    let lines : firstLines n (marked .result) ≡ allLogged (take 1 (undosWaiting (s .undos))) (firstLines n (s .lines)) =
-    marked .ensures n (omega (arith, k .narrow))
-    ∙ ap (λ (es : List Entry). allLogged es (firstLines n (s .lines))) (oldest-all 1 (s .undos) (k .short)) in
-    let next = oneLogged s (marked .result) (dropped .result) (s .redos) in
+    let lines : firstLines n (withStates (marked .last .0) (s .lines)) ≡ allLogged (take 1 (undosWaiting (s .undos))) (firstLines n (s .lines)) =
+    ap (λ (ss : List ℕ). firstLines n (withStates ss (s .lines))) (marked .ensures (whole-lines b .states) (places b))
+    ∙ logged-lines (s .undos) (s .lines) (places b) (k .short) (whole-lines b) 1 n (k .some) (omega (arith, k .narrow)) in
+    let next = oneLogged s (withStates (marked .last .0) (s .lines)) (dropped .result) (s .redos) in
     let same : view next ≡ undosLogged 1 (view s) = rw (rest, k .one, lines) in
     oldest-done logUndo undoRedoRecord 16 (s .undos .len) (undoAt (s .undos)) (a .supply) (view s) mem (undosLogged 1 (view s)) (plan s mem) k
     (record { answer = 0; left = e .result; state = next }) (e .last .0) (taken .if2 .left)
@@ -149,17 +155,14 @@ undo-logged-spec =
     (tie.spec
     refusal-requires
     refused-requires
-    same-length
-    same-length-2
     returns
     append-undos-requires
     cut-requires
-    same-length-3
-    same-length-4
+    same-length
+    same-length-2
     returns-2
+    mark-logged-requires
     drop-oldest-requires
-    all-logged-requires
     add-state
-    same-length-5
-    same-length-6
+    same-length-3
     returns-3)

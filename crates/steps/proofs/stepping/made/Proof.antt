@@ -1,56 +1,84 @@
 -- `stepping::made` meets its contract: each step's function meets its own.
+use mathlib.Core.Path.{_≡_, subst}
 use borrow.Author.Needs.{needs}
-use Rattle.steps.proofs.RecoverStep.{recover-any}
+use Rattle.model.specs.Refusals.{numberOf}
+use Rattle.state.specs.View.{view, memory}
+use Rattle.steps.specs.Steps.{stepOf, early}
+use Rattle.steps.specs.declared.Step.{Step}
+use Rattle.recovery.proofs.RecoverStep.{recover-any}
 use Rattle.steps.proofs.stepping.made.Statement.{statement}
 use Rattle.steps.proofs.stepping.made.Tie as tie
+
+-- no early row refuses the step, whichever it is
+passed : (c : tie.After-slice-known3) (s : Step)
+    → let a = c .before .before .before .args in
+    a .step ≡ s → numberOf (early (stepOf s) (view (a .state)) (memory (a .home .now) (a .working .now) (a .log .now))) ≡ 0
+passed c s e =
+    let a = c .before .before .before .args in
+    subst (λ (x : Step). numberOf (early (stepOf x) (view (a .state)) (memory (a .home .now) (a .working .now) (a .log .now))) ≡ 0) e
+    (c .before .before .before .pre)
 
 enum-known-step : tie.Need-enum-known-step
 enum-known-step c = search needs
 
 begun-requires : tie.Need-begun-requires
-begun-requires c κs = search needs
+begun-requires c κs = passed (c .before .before .before) _ (c .before .step .given .1)
 
 enum-known-step-2 : tie.Need-enum-known-step-2
 enum-known-step-2 c = search needs
 
 stored-requires : tie.Need-stored-requires
-stored-requires c κs = search needs
+stored-requires c κs =
+    let d = c .before .before .before .before in
+    passed (d .before .before) _ (d .step2 .given .1)
 
 enum-told : tie.Need-enum-told
 enum-told c = search needs
 
 undo-logged-requires : tie.Need-undo-logged-requires
-undo-logged-requires c κs = search needs
+undo-logged-requires c κs =
+    let d = c .before .before .before in
+    passed (d .before .before) _ (d .enum-told .given .1)
 
 enum-told-2 : tie.Need-enum-told-2
 enum-told-2 c = search needs
 
 redo-logged-requires : tie.Need-redo-logged-requires
-redo-logged-requires c κs = search needs
+redo-logged-requires c κs =
+    let d = c .before .before .before in
+    passed (d .before .before) _ (d .enum-told2 .given .1)
 
 enum-known-step-3 : tie.Need-enum-known-step-3
 enum-known-step-3 c = search needs
 
 evicted-requires : tie.Need-evicted-requires
-evicted-requires c κs = search needs
+evicted-requires c κs =
+    let d = c .before .before .before .before in
+    passed (d .before .before) _ (d .step3 .given .1)
 
 enum-known-step-4 : tie.Need-enum-known-step-4
 enum-known-step-4 c = search needs
 
 written-back-requires : tie.Need-written-back-requires
-written-back-requires c κs = search needs
+written-back-requires c κs =
+    let d = c .before .before .before .before in
+    passed (d .before .before) _ (d .step4 .given .1)
 
 enum-known-step-5 : tie.Need-enum-known-step-5
 enum-known-step-5 c = search needs
 
 committed-requires : tie.Need-committed-requires
-committed-requires c κs = search needs
+committed-requires c κs =
+    let d = c .before .before .before .before in
+    passed (d .before .before) _ (d .step5 .given .1)
 
 enum-told-3 : tie.Need-enum-told-3
 enum-told-3 c = search needs
 
 deleted-requires : tie.Need-deleted-requires
-deleted-requires c κs = search needs
+deleted-requires c κs =
+    let d = c .before .before .before in
+    passed (d .before .before) _ (d .enum-told3 .given .1)
 
 enum-told-4 : tie.Need-enum-told-4
 enum-told-4 c = search needs

@@ -1,8 +1,12 @@
 -- `stepping::make` meets its contract: the state is tested once, and the step does the rest.
-use mathlib.Core.Path.{_≡_, refl, _∙_}
+use mathlib.Core.Path.{_≡_, refl, sym, _∙_}
 use borrow.Author.Needs.{needs}
+use Rattle.model.specs.Machine.{Memory}
 use Rattle.model.specs.Consistent.{consistent}
-use Rattle.steps.specs.View.{view}
+use Rattle.model.specs.Refusals.{numberOf}
+use Rattle.state.specs.View.{view, memory}
+use Rattle.steps.specs.Steps.{stepOf, early}
+use Rattle.steps.proofs.Early.{early-refused}
 use Rattle.steps.proofs.Sound.{sound-here}
 use Rattle.steps.proofs.stepping.make.Statement.{statement}
 use Rattle.steps.proofs.stepping.make.Tie as tie
@@ -10,23 +14,30 @@ use Rattle.steps.proofs.stepping.make.Tie as tie
 is-consistent-requires : tie.Need-is-consistent-requires
 is-consistent-requires c κs = search needs
 
-common-requires : tie.Need-common-requires
-common-requires c κs = search needs
+unfit-requires : tie.Need-unfit-requires
+unfit-requires c κs = search needs
 
-module _ (c : tie.After-is-consistent) where
+-- the number of the rows before the step's own
+module _ (c : tie.After-unfit) where
+  abbrev tested : tie.After-is-consistent
+  tested = c .before .before .before .before
+
   abbrev start : tie.Start
   start =
-      c .before .before .before .before .before .before .before .before .before .before .before .before .before .before .before .before .before
+      tested .before .before .before .before .before .before .before .before .before .before .before .before .before .before .before .before .before
       .before
 
-  sound : c .is-consistent .result ≡ consistent (view (start .args .state))
-  sound = c .is-consistent .ensures ∙ sound-here (start .args .state)
+  abbrev lent : Memory
+  lent = memory (start .args .home .now) (start .args .working .now) (start .args .log .now)
 
-made-requires : tie.Need-made-requires
-made-requires c κs =
-    let d = c .before .before .before in
-    let e = d .before .before .before .before in
-    (sound e, d .common .ensures (view (start e .args .state)) refl refl refl refl (sound e))
+  sound : tested .is-consistent .result ≡ consistent (view (start .args .state))
+  sound = tested .is-consistent .ensures ∙ sound-here (start .args .state)
+
+  number : c .unfit .result ≡ numberOf (early (stepOf (start .args .step)) (view (start .args .state)) lent)
+  number = c .unfit .ensures (view (start .args .state)) refl refl refl refl sound
+
+refused-requires : tie.Need-refused-requires
+refused-requires c κs = search needs
 
 same-length : tie.Need-same-length
 same-length c = search needs
@@ -38,8 +49,42 @@ same-length-3 : tie.Need-same-length-3
 same-length-3 c = search needs
 
 returns : tie.Need-returns
-returns c = search needs
+returns c =
+    let d = c .before .before in
+    let a = start d .args in
+    rw (c .refused .ensures)
+    (sym (early-refused (stepOf (a .step)) (a .supply) (view (a .state)) (lent d) (d .unfit .result) (number d) (c .before .if1 .taken)))
+
+made-requires : tie.Need-made-requires
+made-requires c κs =
+    let e = c .before .before .before in
+    sym (number (e .before)) ∙ e .if1 .left
+
+same-length-4 : tie.Need-same-length-4
+same-length-4 c = search needs
+
+same-length-5 : tie.Need-same-length-5
+same-length-5 c = search needs
+
+same-length-6 : tie.Need-same-length-6
+same-length-6 c = search needs
+
+returns-2 : tie.Need-returns-2
+returns-2 c = search needs
 
 pub make-spec : {M : Type 1} → statement M
 make-spec =
-    tie.close (tie.spec is-consistent-requires common-requires made-requires same-length same-length-2 same-length-3 returns)
+    tie.close
+    (tie.spec
+    is-consistent-requires
+    unfit-requires
+    refused-requires
+    same-length
+    same-length-2
+    same-length-3
+    returns
+    made-requires
+    same-length-4
+    same-length-5
+    same-length-6
+    returns-2)

@@ -3,7 +3,7 @@ use borrow.Author.Needs.{needs}
 use mathlib.Core.Path.{sym, _∙_}
 use mathlib.Core.Bool.{true, false}
 use Prim.Native.Nat.{_/_}
-use Rattle.steps.specs.View.{view}
+use Rattle.state.specs.View.{view}
 use Rattle.steps.proofs.Filing.{logs-by, undos-length}
 use Rattle.steps.proofs.storing.logs_first.Statement.{statement}
 use Rattle.steps.proofs.storing.logs_first.Tie as tie

@@ -19,8 +19,8 @@ use Rattle.parts.proofs.Waiting.{undoAt, changed-within}
 use Rattle.parts.proofs.Places.{amended-at, amended-none}
 use Rattle.model.specs.Machine.{Memory, changed, heldBy, dirtyAs, stateIn, withLines, withUndoRedo, withRedo}
 use Rattle.model.specs.Steps.{undosLogged, storeNext}
-use Rattle.steps.specs.declared.Fields.{Fields}
-use Rattle.steps.specs.View.{view}
+use Rattle.state.specs.declared.Fields.{Fields}
+use Rattle.state.specs.View.{view}
 use Rattle.line_walks.proofs.WordStates.{withStates, first-marked}
 use Rattle.steps.proofs.Filing.{logs-most, logs-none, none-logged, logs-room, undos-length, logged-limits, next-same, next-other}
 use Rattle.steps.proofs.Filing.{held-lines, dirty-lines, whole-dirty, WholeUndos, Ready}

@@ -1,7 +1,7 @@
 -- `stored` hands back what the model's store gives. Assumes nothing.
 use Prim.Native.Nat.{_/_, _≤_}
 use mathlib.Core.Path.{_≡_, refl, sym, _∙_}
-use mathlib.Core.Bool.{Bool, true}
+use mathlib.Core.Bool.{Bool}
 use borrow.Author.Needs.{needs}
 use native.Mathlib.Omega.{arith}
 use lib.Dec.{eqb}
@@ -11,9 +11,10 @@ use Rattle.model.specs.Refusals.{numberOf}
 use Rattle.model.specs.Steps.{storeLogs, undoRecords}
 use Rattle.logging.proofs.Appending.{Appended}
 use Rattle.logging.proofs.Guards.{undos-appended}
-use Rattle.steps.specs.View.{view, memory}
+use Rattle.state.specs.View.{view, memory}
 use Rattle.steps.proofs.Filing.{logs-most, undos-length, redos-length}
-use Rattle.steps.proofs.StoreRows.{earlyRows, storeRows, late-number, early-refused, early-passed, late-decides, Known, known}
+use Rattle.steps.proofs.Refused.{refused-then}
+use Rattle.steps.proofs.StoreRows.{placeRows, earlyRows, storeRows, late-number, place-refused, place-passed, late-decides, Known, known}
 use Rattle.steps.proofs.StoreRows.{store-refused, Allowed, allowed, store-done, store-cut}
 use Rattle.steps.proofs.storing.stored.Statement.{statement}
 use Rattle.steps.proofs.storing.stored.Tie as tie
@@ -28,33 +29,41 @@ early-refusal-requires c κs = search needs
 refused-requires : tie.Need-refused-requires
 refused-requires c κs = search needs
 
+-- where the store began
+abbrev begin : tie.After-early-refusal → tie.Start
+begin c = c .before .before .before .before
+
+-- the number of the early rows is that of the rows on thread and word
+early-here : (c : tie.After-early-refusal) → let a = begin c .args in
+    c .early-refusal .result ≡ numberOf (earlyRows (view (a .t1)) (lent (begin c)) (a .thread) (a .word))
+early-here c =
+    let a = begin c .args in
+    c .early-refusal .ensures (view (a .t1)) refl
+    ∙ refused-then (view (a .t1)) (lent (begin c)) (begin c .pre) (placeRows (view (a .t1)) (a .thread) (a .word))
+
 returns : tie.Need-returns
 returns c =
-    let s = c .before .before .before .before .before .before in
+    let s = begin (c .before .before) in
     let a = s .args in
     let early = c .before .before .early-refusal in
     rw (c .refused .ensures)
     (store-refused (a .t1) (lent s) (a .supply) (a .thread) (a .word) (a .value) (early .result)
-    (early-refused (view (a .t1)) (lent s) (a .thread) (a .word) (a .value) (early .result)
-    (early .ensures (view (a .t1)) (lent s) refl (s .pre)) (c .before .if1 .taken))
+    (place-refused (view (a .t1)) (lent s) (a .thread) (a .word) (a .value) (early .result) (early-here (c .before .before)) (c .before .if1 .taken))
     (c .before .if1 .taken))
 
 -- no early row refuses the store
 module _ (c : tie.Else1) where
   abbrev start : tie.Start
-  start = c .before .before .before .before .before
-
-  early-here : c .before .early-refusal .result ≡ numberOf (earlyRows (view (start .args .t1)) (lent start) (start .args .thread) (start .args .word))
-  early-here = c .before .early-refusal .ensures (view (start .args .t1)) (lent start) refl (start .pre)
+  start = begin (c .before)
 
   known-here : Known (view (start .args .t1)) (lent start) (start .args .thread) (start .args .word)
   known-here =
       known (view (start .args .t1)) (lent start) (start .args .thread) (start .args .word)
-      (early-passed (view (start .args .t1)) (lent start) (start .args .thread) (start .args .word) (start .args .value)
-      (c .before .early-refusal .result) early-here (c .if1 .left))
+      (place-passed (view (start .args .t1)) (lent start) (start .args .thread) (start .args .word) (start .args .value)
+      (c .before .early-refusal .result) (early-here (c .before)) (c .if1 .left))
 
-cast-t23 : tie.Need-cast-t23
-cast-t23 c =
+cast-t22 : tie.Need-cast-t22
+cast-t22 c =
     let thread = known-here c .thread in
     omega arith
 
@@ -143,7 +152,7 @@ module _ (c : tie.After-late-refusal) where
       (taken .ensures (a .t1 .lines) refl (a .t1 .words / 8) (omega arith))
       (c .late-refusal .ensures)
       ∙ late-decides (view (a .t1)) (lent begun) (a .thread) (a .word) (a .value) (here .before .early-refusal .result)
-      (early-here here) (here .if1 .left)
+      (early-here (here .before)) (here .if1 .left)
 
 returns-2 : tie.Need-returns-2
 returns-2 c =
@@ -250,7 +259,7 @@ stored-spec =
     early-refusal-requires
     refused-requires
     returns
-    cast-t23
+    cast-t22
     cast-late-refusal
     mul-late-refusal
     slice-read-late-refusal

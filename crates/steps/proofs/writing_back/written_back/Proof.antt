@@ -1,6 +1,13 @@
 -- `written_back` meets its contract: refused, cut, or done.
-use Rattle.steps.specs.View.{memory}
-use Rattle.steps.proofs.WritingBack.{write-refused, write-cut, write-done}
+use mathlib.Core.Path.{_≡_, refl}
+use mathlib.Core.List.{[]}
+use native.Mathlib.Omega.{arith}
+use Rattle.parts.proofs.FirstLines.{WholeLines}
+use Rattle.model.specs.Machine.{Memory}
+use Rattle.model.specs.Refusals.{numberOf}
+use Rattle.state.specs.View.{view, memory}
+use Rattle.steps.proofs.LineRows.{lineRows, line-number}
+use Rattle.steps.proofs.WritingBack.{write-refused, write-fit, write-cut, write-done}
 use borrow.Author.Needs.{needs}
 use Rattle.steps.proofs.writing_back.written_back.Statement.{statement}
 use Rattle.steps.proofs.writing_back.written_back.Tie as tie
@@ -12,25 +19,31 @@ start c = c .before .before .before .before .before .before
 abbrev passed : tie.After-store-line → tie.Else1
 passed c = c .before .before .before
 
+abbrev lent : tie.Start → Memory
+lent c = memory (c .args .home .now) (c .args .working .now) (c .args .log .now)
+
+whole-lines : (c : tie.Start) → WholeLines (c .args .t1 .lines)
+whole-lines c = search needs
+
+-- the number that was found is that of the step's rows
+number : (c : tie.After-line-refusal) → c .line-refusal .result ≡ numberOf (lineRows (view (start c .args .t1)) (lent (start c)) (start c .args .line) [])
+unfolding numberOf
+number c =
+    let s = start c in
+    line-number (s .args .t1) (lent s) (s .args .line) 0 (c .line-refusal .result) [] (s .pre) (λ _. refl) (c .line-refusal .ensures)
+
 line-refusal-requires : tie.Need-line-refusal-requires
-line-refusal-requires c κs = c .before .before .before .before .before .pre
+line-refusal-requires c κs = search needs
 
 refused-requires : tie.Need-refused-requires
 refused-requires c κs = search needs
-
-same-length : tie.Need-same-length
-same-length c = search needs
-
-same-length-2 : tie.Need-same-length-2
-same-length-2 c = search needs
 
 returns : tie.Need-returns
 returns c =
     let refused = c .before .before in
     let a = start refused .args in
-    let mem = memory (a .home .now) (a .working .now) (a .log .now) in
-    let number = refused .line-refusal in
-    rw (c .refused .ensures) (write-refused (a .line) (a .supply) (a .state) mem (number .result) (number .ensures) (c .before .if1 .taken))
+    rw (c .refused .ensures)
+    (write-refused (a .line) (a .supply) (a .t1) (lent (start refused)) (refused .line-refusal .result) (number refused) (c .before .if1 .taken))
 
 store-line-requires : tie.Need-store-line-requires
 store-line-requires c κs = search needs
@@ -38,44 +51,46 @@ store-line-requires c κs = search needs
 cut-requires : tie.Need-cut-requires
 cut-requires c κs = search needs
 
-same-length-3 : tie.Need-same-length-3
-same-length-3 c = search needs
+same-length : tie.Need-same-length
+same-length c = search needs
 
-same-length-4 : tie.Need-same-length-4
-same-length-4 c = search needs
+same-length-2 : tie.Need-same-length-2
+same-length-2 c = search needs
 
 returns-2 : tie.Need-returns-2
 returns-2 c =
     let ended = c .before .before in
     let stored = ended .before .before .before .before .before in
     let began = passed stored in
-    let number = began .before .line-refusal in
     let a = start (began .before) .args in
-    let mem = memory (a .home .now) (a .working .now) (a .log .now) in
-    write-cut (a .line) (a .supply) (a .state) mem (number .result) (number .ensures) (began .if1 .left)
+    write-cut (a .line) (a .supply) (a .t1) (lent (start (began .before))) (began .before .line-refusal .result) (number (began .before)) (began .if1 .left)
     (stored .store-line .last .0) (stored .store-line .ensures .1)
     (ended .cut .result) (ended .cut .last .0) (ended .before .before .if2 .taken) (ended .cut .ensures .0) (ended .cut .ensures .1)
 
-written-requires : tie.Need-written-requires
-written-requires c κs = search needs
+put-flag-requires : tie.Need-put-flag-requires
+put-flag-requires c κs =
+    let began = passed (c .before .before .before .before) in
+    let s = start (began .before) in
+    let number = number (began .before) in
+    let f = write-fit (s .args .line) (s .args .supply) (s .args .t1) (lent s) (began .before .line-refusal .result) number (began .if1 .left) in
+    omega arith
 
-same-length-5 : tie.Need-same-length-5
-same-length-5 c = search needs
+same-length-3 : tie.Need-same-length-3
+same-length-3 c = search needs
 
-same-length-6 : tie.Need-same-length-6
-same-length-6 c = search needs
+same-length-4 : tie.Need-same-length-4
+same-length-4 c = search needs
 
 returns-3 : tie.Need-returns-3
 returns-3 c =
     let enough = c .before .before in
     let stored = enough .before .before .before in
     let began = passed stored in
-    let number = began .before .line-refusal in
-    let a = start (began .before) .args in
-    let mem = memory (a .home .now) (a .working .now) (a .log .now) in
-    write-done (a .line) (a .supply) (a .state) mem (number .result) (number .ensures) (began .if1 .left)
+    let s = start (began .before) in
+    let a = s .args in
+    write-done (a .line) (a .supply) (a .t1) (lent s) (began .before .line-refusal .result) (number (began .before)) (began .if1 .left)
     (stored .store-line .last .0) (stored .store-line .ensures .1) (stored .store-line .result)
-    (c .written .result) (enough .if2 .left) (stored .store-line .ensures .0) (c .written .ensures)
+    (c .put-flag .last .0) (enough .if2 .left) (stored .store-line .ensures .0) (whole-lines s) (c .put-flag .ensures)
 
 pub written-back-spec : {M : Type 1} → statement M
 written-back-spec =
@@ -83,15 +98,13 @@ written-back-spec =
     (tie.spec
     line-refusal-requires
     refused-requires
-    same-length
-    same-length-2
     returns
     store-line-requires
     cut-requires
+    same-length
+    same-length-2
+    returns-2
+    put-flag-requires
     same-length-3
     same-length-4
-    returns-2
-    written-requires
-    same-length-5
-    same-length-6
     returns-3)

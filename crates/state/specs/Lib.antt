@@ -1,0 +1,2 @@
+-- What the code's state means.
+pub mod View

@@ -1,0 +1,33 @@
+-- The state of the code as the state of the model, and what a step hands back as the model's outcome.
+use Prim.Native.Nat.{ℕ, _/_}
+use mathlib.Core.List.{List}
+use Rattle.parts.specs.Waiting.{undosWaiting, redosWaiting}
+use Rattle.parts.specs.Lines.{firstLines}
+use Rattle.model.specs.Machine.{Machine, Memory}
+use Rattle.model.specs.Plan.{Outcome}
+use Rattle.state.specs.declared.Fields.{Fields}
+use Rattle.state.specs.declared.Made.{Made}
+
+-- the first W/8 lines and the entries that wait are the state; places that are not in use mean nothing
+abbrev pub view : Fields → Machine
+view s =
+    record {
+      lost = s .lost;
+      words = s .words;
+      slots = s .slots;
+      head = s .head;
+      tail = s .tail;
+      opened = s .opened;
+      lines = firstLines (s .words / 8) (s .lines);
+      undoRedo = undosWaiting (s .undos);
+      redo = redosWaiting (s .redos);
+    }
+
+-- the three lent buffers
+abbrev pub memory : List ℕ → List ℕ → List ℕ → Memory
+memory home working log = record { home = home; working = working; log = log }
+
+-- an answer with the buffers after the step
+abbrev pub shown : Made → List ℕ → List ℕ → List ℕ → Outcome
+shown r home working log =
+    record { answer = r .answer; left = r .left; machine = view (r .state); memory = memory home working log }

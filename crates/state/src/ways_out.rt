@@ -1,0 +1,46 @@
+// What a loss of supply leaves: the lost state, and a step that was cut.
+ghost use mathlib.Core.Path.{_≡_};
+ghost use lib.ListN.{length, replicate};
+ghost use Rattle.model.specs.Machine.{lostMachine};
+ghost use Rattle.state.specs.View.{view};
+use crate::CUT;
+use crate::Fields;
+use crate::Made;
+use crate::buffers::clear;
+use parts::Lines;
+use parts::RedoBuffer;
+use parts::UndoBuffer;
+
+// "dark: one fixed value, its other numbers 0"
+pub fn lost() -> Fields
+    ensures { λ (r : Fields). ⌜ view r ≡ lostMachine ⌝ }
+{
+    Fields {
+        lost: true,
+        words: 0,
+        slots: 0,
+        head: 0,
+        tail: 0,
+        opened: [false; 8],
+        lines: Lines {
+            holders: [0; 64],
+            dirty: [false; 64],
+            states: [0; 64],
+        },
+        undos: UndoBuffer::empty(),
+        redos: RedoBuffer::empty(),
+    }
+}
+
+// "the answer is 255 (cut), the count left is 0, all working words become 0, and the returned state is dark"
+pub fn cut(working: &mut [u64]) -> Made
+    ensures { λ (r : Made). ⌜ (r .answer ≡ 255) × ((r .left ≡ 0) × (view (r .state) ≡ lostMachine)) ⌝ }
+    ensures { λ (r : Made). ⌜ now (working .exit) ≡ replicate (length (now (working .entry))) 0 ⌝ }
+{
+    clear(working);
+    Made {
+        answer: CUT,
+        left: 0,
+        state: lost(),
+    }
+}

@@ -1,0 +1,63 @@
+-- `stepping::unfit` meets its contract: the rows before a step's own, by the step.
+use Prim.Native.Nat.{ℕ}
+use mathlib.Core.Path.{_≡_, refl}
+use mathlib.Core.List.{List, [], _∷_}
+use borrow.Author.Needs.{needs}
+use denote.Enum.Declared.{tagOf}
+use types.Run.{OneOf, miss}
+use Rattle.model.specs.Machine.{Machine, Memory}
+use Rattle.model.specs.Refusals.{numberOf, common}
+use Rattle.steps.specs.Steps.{stepOf, early}
+use Rattle.steps.specs.declared.Step.{Step}
+use Rattle.steps.specs.declared.Step.the-variants.{Begin, Store, LogUndo, LogRedo, Evict, WriteBack, Commit, DeleteOldest, Recover}
+use Rattle.steps.proofs.Step.{the-type}
+use Rattle.steps.proofs.stepping.unfit.Statement.{statement}
+use Rattle.steps.proofs.stepping.unfit.Tie as tie
+
+-- the variants that are neither a begin nor a recovery, by their numbers
+abbrev others : List ℕ
+others = 1 ∷ 2 ∷ 3 ∷ 4 ∷ 5 ∷ 6 ∷ 7 ∷ []
+
+-- these steps have the common rows
+common-early : (s : Step) (m : Machine) (mem : Memory) → OneOf others (tagOf the-type s) → early (stepOf s) m mem ≡ common m mem
+common-early (Begin t) m mem one = absurd (miss others 0 tt one)
+common-early (Store t w v) m mem one = refl
+common-early LogUndo m mem one = refl
+common-early LogRedo m mem one = refl
+common-early (Evict i) m mem one = refl
+common-early (WriteBack i) m mem one = refl
+common-early (Commit t) m mem one = refl
+common-early DeleteOldest m mem one = refl
+common-early Recover m mem one = absurd (miss others 8 tt one)
+
+enum-told : tie.Need-enum-told
+enum-told c = search needs
+
+refuse-requires : tie.Need-refuse-requires
+refuse-requires c κs = search needs
+
+refuse-requires-2 : tie.Need-refuse-requires-2
+refuse-requires-2 c κs = search needs
+
+enum-told-2 : tie.Need-enum-told-2
+enum-told-2 c = search needs
+
+common-requires : tie.Need-common-requires
+common-requires c κs = search needs
+
+returns : tie.Need-returns
+unfolding numberOf
+returns c m lost words slots head sound =
+    rw (c .before .before .enum-told .given .1) (simp (c .refuse2 .ensures, c .before .refuse .ensures, lost, sound))
+
+returns-2 : tie.Need-returns-2
+unfolding numberOf
+returns-2 c m lost words slots head sound = rw (c .enum-told2 .given .1)
+
+returns-3 : tie.Need-returns-3
+returns-3 c m lost words slots head sound =
+    rw (common-early _ m _ (c .before .match .keys3)) (c .common .ensures m lost words slots head sound)
+
+pub unfit-spec : {M : Type 1} → statement M
+unfit-spec =
+    tie.close (tie.spec enum-told refuse-requires refuse-requires-2 enum-told-2 common-requires returns returns-2 returns-3)

@@ -79,10 +79,9 @@ commit-number b l h n t count m rs has e =
     ]
 
 -- the state after a commit, by what the code sets: the lengths of the buffers, and the lines
-pub commit-next : (s : Fields) (free : Lines) (t count : ℕ)
-    → firstLines (s .words / 8) free ≡ map (released t) (allLogged (undosWaiting (s .undos)) (firstLines (s .words / 8) (s .lines)))
-    → view
-    (record {
+abbrev pub freed : Fields → Lines → ℕ → ℕ → Fields
+freed s free t count =
+    record {
       lost = s .lost;
       words = s .words;
       slots = s .slots;
@@ -92,13 +91,16 @@ pub commit-next : (s : Fields) (free : Lines) (t count : ℕ)
       lines = free;
       undos = record { len = 0; threads = s .undos .threads; words = s .undos .words; undos = s .undos .undos; redos = s .undos .redos };
       redos = record { len = 0; threads = s .redos .threads; words = s .redos .words; redos = s .redos .redos };
-    })
-    ≡ committedBy t count (view s)
+    }
+
+pub commit-next : (s : Fields) (free : Lines) (t count : ℕ)
+    → firstLines (s .words / 8) free ≡ map (released t) (allLogged (undosWaiting (s .undos)) (firstLines (s .words / 8) (s .lines)))
+    → view (freed s free t count) ≡ committedBy t count (view s)
 unfolding committedBy listed
-commit-next s free t count freed =
+commit-next s free t count lines =
     let all : take (length (undosWaiting (s .undos))) (undosWaiting (s .undos)) ≡ undosWaiting (s .undos) =
     take-all (length (undosWaiting (s .undos))) (undosWaiting (s .undos)) (omega arith) in
-    rw (all, drop-length, freed)
+    rw (all, drop-length, lines)
 
 -- the sizes of a state that no common row refuses
 pub record Sizes (s : Fields) : Type 0 where

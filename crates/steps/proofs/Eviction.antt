@@ -58,6 +58,21 @@ states-lines n ls i k ss whole h e = rw e (ap (firstLines n) (sym states-put) �
     states-put : putLine ls i (statesAs k (lineAt ls i)) ≡ withStates (set (ls .states) i k) ls
     states-put = simp set-getD
 
+-- the state that the code makes: other redo entries, other states of the lines, and the tail past `count` records
+abbrev pub setDown : Fields → ℕ → RedoBuffer → List ℕ → Fields
+setDown s count grown ss =
+    record {
+      lost = s .lost;
+      words = s .words;
+      slots = s .slots;
+      head = s .head;
+      tail = s .tail + count;
+      opened = s .opened;
+      lines = withStates ss (s .lines);
+      undos = s .undos;
+      redos = grown;
+    }
+
 -- line i, in use
 module _ (s : Fields) (i : ℕ) (below : i < s .words / 8) where
   abbrev line : Line
@@ -117,9 +132,9 @@ module _ (s : Fields) (i : ℕ) (below : i < s .words / 8) where
         rw (new, z) (sym (append-nil (redosWaiting (s .redos))))
 
     -- the state after the eviction
-    pub set-down : (grown : RedoBuffer) (ss : List ℕ) → s .words ≤ 512 → WholeLines (s .lines)
+    set-down : (grown : RedoBuffer) (ss : List ℕ) → s .words ≤ 512 → WholeLines (s .lines)
         → redosWaiting grown ≡ drop count (redosWaiting (s .redos)) ++ evicted (view s) mem i → ss ≡ set (s .lines .states) i 0
-        → withTail (s .tail + count) (withLines (firstLines (s .words / 8) (withStates ss (s .lines))) (withRedo (redosWaiting grown) (view s)))
+        → view (setDown s count grown ss)
         ≡ withLines (changed (statesAs 0) i (view s .lines)) (withRedo (drop count (view s .redo) ++ evicted (view s) mem i) (redosLogged count (view s)))
     set-down grown ss narrow whole more clean =
         let lines : List Line = changed (statesAs 0) i (view s .lines) in
@@ -189,12 +204,15 @@ module _ (i c : ℕ) (s : Fields) (mem : Memory) where
         appended = subst (λ (k : ℕ). Appended c (mem .log) (s .tail) (redoRecords k (view s)) log rest) lacks made
 
         -- done: the supply was enough
-        pub evict-done : (t : Fields) → 3 * count ≤ c → view t ≡ next count
-            → shown (record { answer = 0; left = rest; state = t }) (mem .home) (mem .working) log ≡ stepped (evict i) c (view s) mem
-        evict-done t h state =
+        pub evict-done : 3 * count ≤ c → WholeLines (s .lines) → (grown : RedoBuffer) (ss : List ℕ)
+            → redosWaiting grown ≡ drop count (redosWaiting (s .redos)) ++ evicted (view s) mem i → ss ≡ set (s .lines .states) i 0
+            → shown (record { answer = 0; left = rest; state = setDown s count grown ss }) (mem .home) (mem .working) log
+            ≡ stepped (evict i) c (view s) mem
+        evict-done h whole grown ss more clean =
             let l = size count lacks within in
+            let state = set-down s i (evict-fit .below) mem count lacks within grown ss (evict-fit .narrow) whole more clean in
             append-done (evict i) c (view s) mem rows records (next (lacking (view s) mem i)) (mem .working) plan none (evict-fit .fits) room-for
-            (record { answer = 0; left = rest; state = t }) log (omega arith) appended refl (state ∙ ap next lacks)
+            (record { answer = 0; left = rest; state = setDown s count grown ss }) log (omega arith) appended refl (state ∙ ap next lacks)
 
         -- cut: it was not
         pub evict-cut : (r : Made) (after : List ℕ) → c < 3 * count → (r .answer ≡ 255) × ((r .left ≡ 0) × (view (r .state) ≡ lostMachine))

@@ -11,7 +11,7 @@ ghost use Rattle.model.specs.Refusals.{numberOf, common as commonRows, unknownT
 ghost use Rattle.model.specs.Steps.{commitRecords};
 ghost use Rattle.model.specs.Step.{commit, stepped};
 ghost use Rattle.state.specs.View.{view, memory, shown};
-ghost use Rattle.steps.specs.Committing.{HasEntries, HasLog, Allowed, committedBy};
+ghost use Rattle.steps.specs.Committing.{HasEntries, HasLog, Allowed};
 use crate::refusals::no_room;
 use crate::refusals::refuse;
 use crate::refusals::refused;
@@ -64,28 +64,9 @@ pub fn commit_refusal(
     )
 }
 
-// The state after a commit that logged `count` records.
-fn after_commit(mut state: Fields, thread: u64, count: u64) -> Fields
-    requires { ⌜ (thread < 8) × ((state .words ≤ 512) × ((state .undos .len ≤ 16) × (state .tail + count ≤ numbers))) ⌝ }
-    ensures { λ (r : Fields). ⌜ view r ≡ committedBy thread count (view state) ⌝ }
-{
-    let t = thread as usize;
-    let words = state.undos.words;
-    let logged = state.undos.len;
-    mark_logged(&mut state.lines.states, &words, logged);
-    let lines = state.lines;
-    let free = release(lines, (state.words / 8) as usize, thread);
-    state.lines = free;
-    state.undos.len = 0;
-    state.redos.len = 0;
-    state.opened[t] = false;
-    state.tail = state.tail + count;
-    state
-}
-
 // A commit that no row refuses and that logs `count` records: done or cut.
 fn carry_out(
-    state: Fields,
+    mut state: Fields,
     working: &mut [u64],
     log: &mut [u64],
     supply: u64,
@@ -120,10 +101,19 @@ fn carry_out(
     if supply < 3 * count {
         return cut(working);
     }
+    let words = state.undos.words;
+    mark_logged(&mut state.lines.states, &words, undos);
+    let lines = state.lines;
+    let free = release(lines, (state.words / 8) as usize, thread);
+    state.lines = free;
+    state.undos.len = 0;
+    state.redos.len = 0;
+    state.opened[thread as usize] = false;
+    state.tail = state.tail + count;
     Made {
         answer: DONE,
         left: left,
-        state: after_commit(state, thread, count),
+        state: state,
     }
 }
 

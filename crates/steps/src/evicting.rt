@@ -1,16 +1,14 @@
 // "Set down a line": eviction. Its ULog words add redo entries, for which the oldest are logged where places lack; all its words become Clean.
 ghost use mathlib.Core.Path.{_≡_};
-ghost use mathlib.Core.List.{[], _++_};
-ghost use Prim.Native.Nat.{_+_, _-_, _/_, _%_, _≤_, _<_};
+ghost use Prim.Native.Nat.{_+_, _-_, _%_, _≤_, _<_};
 ghost use lib.Dec.{eqb};
 ghost use lib.ListN.{length, getD, drop};
+ghost use Rattle.parts.specs.Lines.{lineAt};
 ghost use Rattle.parts.specs.States.{stateAt, ULog};
 ghost use Rattle.parts.specs.Waiting.{redosWaiting};
 ghost use Rattle.line_walks.specs.Walks.{addedAll, ulogEntries};
 ghost use Rattle.model.specs.Lists.{keep, upTo};
-ghost use Rattle.model.specs.Machine.{statesAs, changed, withLines, withRedo};
 ghost use Rattle.model.specs.Refusals.{numberOf, common as commonRows};
-ghost use Rattle.model.specs.Steps.{evicted as evictedOf, lacking as lackingOf, redosLogged};
 ghost use Rattle.model.specs.Step.{evict, stepped};
 ghost use Rattle.state.specs.View.{view, memory, shown};
 use crate::places::put_states;
@@ -51,36 +49,26 @@ fn refill(redos: RedoBuffer, count: usize, line: Line, working: &[u64], first: u
     add_ulog(rest, line, working, first)
 }
 
-// The state after an eviction for which `count` redo entries were logged. A line whose words are all Clean stays as it is.
-fn set_down(mut state: Fields, working: &[u64], line: usize, count: usize) -> Fields
-    requires { ⌜ (line < state .words / 8) × ((state .words ≤ 512) × (length (now working) ≡ state .words)) ⌝ }
-    requires { ⌜ (count ≤ state .redos .len) × ((state .redos .len ≤ 32) × ((state .tail ≤ 281474976710656) ×
-        (count ≡ lackingOf (view state) (memory [] (now working) []) line))) ⌝ }
-    ensures { λ (r : Fields). ⌜ view r ≡ withLines (changed (statesAs 0) line (view state .lines))
-        (withRedo (drop count (view state .redo) ++ evictedOf (view state) (memory [] (now (working .entry)) []) line)
-        (redosLogged count (view state))) ⌝ }
+// A line, by the arrays of all 64.
+fn line_at<'a>(
+    holders: &'a [u8; 64],
+    dirty: &'a [bool; 64],
+    states: &'a [u16; 64],
+    at: usize,
+) -> Line
+    requires { ⌜ at < 64 ⌝ }
+    ensures { λ (r : Line). ⌜ r ≡ lineAt (record { holders = now (holders .entry); dirty = now (dirty .entry); states = now (states .entry) }) at ⌝ }
 {
-    let holders = state.lines.holders;
-    let dirty = state.lines.dirty;
-    let states = state.lines.states;
-    let evicted = Line {
-        holder: holders[line],
-        dirty: dirty[line],
-        states: states[line],
-    };
-    if evicted.states != 0 {
-        let redos = state.redos;
-        let grown = refill(redos, count, evicted, working, 8 * line);
-        state.redos = grown;
-        put_states(&mut state.lines.states, line, 0);
+    Line {
+        holder: holders[at],
+        dirty: dirty[at],
+        states: states[at],
     }
-    state.tail = state.tail + count as u64;
-    state
 }
 
-// The step, of a state that the common rows do not refuse.
+// The step, of a state that the common rows do not refuse. A line whose words are all Clean stays as it is.
 pub fn evicted(
-    state: Fields,
+    mut state: Fields,
     home: &[u64],
     working: &mut [u64],
     log: &mut [u64],
@@ -111,9 +99,22 @@ pub fn evicted(
     if supply < 3 * count as u64 {
         return cut(working);
     }
+    let gone = line_at(
+        &state.lines.holders,
+        &state.lines.dirty,
+        &state.lines.states,
+        at,
+    );
+    if gone.states != 0 {
+        let redos = state.redos;
+        let grown = refill(redos, count, gone, working, 8 * at);
+        state.redos = grown;
+        put_states(&mut state.lines.states, at, 0);
+    }
+    state.tail = state.tail + count as u64;
     Made {
         answer: DONE,
         left: left,
-        state: set_down(state, working, at, count),
+        state: state,
     }
 }

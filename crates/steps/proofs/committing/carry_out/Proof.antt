@@ -1,12 +1,24 @@
 -- `carry_out` meets its contract: cut, or done.
-use mathlib.Core.Path.{refl, sym}
-use mathlib.Core.List.{List}
-use Prim.Native.Nat.{ℕ}
+use Prim.Native.Nat.{ℕ, _/_}
+use mathlib.Core.Path.{_≡_, refl, sym, _∙_, ap}
+use mathlib.Core.List.{List, map}
 use native.Mathlib.Omega.{arith}
 use borrow.Author.Needs.{needs}
+use lib.ListN.{length, take}
+use lib.Seq.{take-all}
+use Rattle.parts.specs.declared.Line.{Line}
+use Rattle.parts.specs.Lines.{firstLines}
+use Rattle.parts.specs.Waiting.{undosWaiting}
+use Rattle.parts.proofs.FirstLines.{WholeLines}
+use Rattle.parts.proofs.Waiting.{undoAt}
+use Rattle.parts.proofs.Listed.{length-listed}
+use Rattle.model.specs.Machine.{allLogged}
+use Rattle.model.specs.Steps.{released}
+use Rattle.line_walks.proofs.ReleasedLines.{released-all}
+use Rattle.line_walks.proofs.WordStates.{withStates, logged-lines}
 use Rattle.state.specs.View.{view, memory}
 use Rattle.steps.specs.Committing.{Allowed}
-use Rattle.steps.proofs.Commits.{Ready, ready, commit-done, commit-cut}
+use Rattle.steps.proofs.Commits.{Ready, ready, freed, commit-next, commit-done, commit-cut}
 use Rattle.steps.proofs.committing.carry_out.Statement.{statement}
 use Rattle.steps.proofs.committing.carry_out.Tie as tie
 
@@ -53,8 +65,31 @@ returns c home allowed =
     (a .count) (allowed .records) (cleared .result) (cleared .last .0) (made .last .0) (made .result)
     (c .before .before .before .before .if1 .taken) (made .ensures (a .t1 .lines .dirty)) (cleared .ensures .0) (cleared .ensures .1)
 
-after-commit-requires : tie.Need-after-commit-requires
-after-commit-requires c κs = start (c .before .before .before) .pre
+-- the arrays of the state have their places
+places : (c : tie.Start) → length (c .args .t1 .undos .words) ≡ 16
+places c = search needs
+
+whole : (c : tie.Start) → WholeLines (c .args .t1 .lines)
+whole c = search needs
+
+mark-logged-requires : tie.Need-mark-logged-requires
+mark-logged-requires c κs = search needs
+
+cast-release : tie.Need-cast-release
+cast-release c = search needs
+
+release-requires : tie.Need-release-requires
+release-requires c κs = search needs
+
+element-write-state : tie.Need-element-write-state
+element-write-state c =
+    let p = start (c .before .before .before .before .before .before .before .before .before .before .before) .pre in
+    omega arith
+
+add-state : tie.Need-add-state
+add-state c =
+    let p = start (c .before .before .before .before .before .before .before .before .before .before .before) .pre in
+    search needs
 
 same-length-3 : tie.Need-same-length-3
 same-length-3 c = search needs
@@ -64,13 +99,27 @@ same-length-4 c = search needs
 
 returns-2 : tie.Need-returns-2
 returns-2 c home allowed =
-    let logged = c .before .before .before .before in
-    let s = start logged in
-    let a = s .args in
+    let free = c .before .before .release in
+    let after = c .before .before .before .before in
+    let enough = after .before .before .before .before in
+    let logged = enough .before .before .before in
+    let begun = start logged in
+    let a = begun .args in
+    let s = a .t1 in
+    let n = s .words / 8 in
+    let p = begun .pre in
     let made = logged .append-commit in
-    commit-done (a .t1) (a .thread) (a .supply) home (a .working .now) (a .log .now) (is-ready s home allowed)
-    (a .count) (allowed .records) (c .after-commit .result) (made .last .0) (made .result)
-    (c .before .if1 .left) (made .ensures (a .t1 .lines .dirty)) (c .after-commit .ensures)
+    let marked = withStates (after .mark-logged .last .0) (s .lines) in
+    let size : length (undosWaiting (s .undos)) ≡ s .undos .len = length-listed (s .undos .len) (undoAt (s .undos)) in
+    let all : take (s .undos .len) (undosWaiting (s .undos)) ≡ undosWaiting (s .undos) = take-all (s .undos .len) (undosWaiting (s .undos)) (omega arith) in
+    let lines : firstLines n marked ≡ allLogged (undosWaiting (s .undos)) (firstLines n (s .lines)) =
+    rw (after .mark-logged .ensures (whole begun .states) (places begun), ← all)
+    (logged-lines (s .undos) (s .lines) (places begun) (omega arith) (whole begun) (s .undos .len) n (omega arith) (omega arith)) in
+    commit-done s (a .thread) (a .supply) home (a .working .now) (a .log .now) (is-ready begun home allowed)
+    (a .count) (allowed .records) (freed s (free .result) (a .thread) (a .count)) (made .last .0) (made .result)
+    (enough .if1 .left) (made .ensures (s .lines .dirty))
+    (commit-next s (free .result) (a .thread) (a .count)
+    (free .ensures n (omega arith) ∙ released-all (a .thread) n marked ∙ ap (λ (ls : List Line). map (released (a .thread)) ls) lines))
 
 pub carry-out-spec : {M : Type 1} → statement M
 carry-out-spec =
@@ -83,7 +132,11 @@ carry-out-spec =
     same-length
     same-length-2
     returns
-    after-commit-requires
+    mark-logged-requires
+    cast-release
+    release-requires
+    element-write-state
+    add-state
     same-length-3
     same-length-4
     returns-2)

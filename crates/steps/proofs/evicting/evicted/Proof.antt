@@ -1,17 +1,20 @@
 -- `evicting::evicted` meets its contract: refused, cut, or done.
-use Prim.Native.Nat.{ℕ, _≤_}
-use mathlib.Core.Path.{_≡_}
-use mathlib.Core.List.{List, []}
+use Prim.Native.Nat.{_≤_, _<_}
+use mathlib.Core.Path.{_≡_, sym, ap, _∙_}
+use mathlib.Core.Logic.{⊎-elim}
 use native.Mathlib.Omega.{arith}
+use lib.ListN.{getD, set}
+use lib.Seq.{set-getD}
+use Rattle.parts.proofs.FirstLines.{WholeLines}
 use Rattle.model.specs.Machine.{Memory}
 use Rattle.model.specs.Refusals.{numberOf}
-use Rattle.model.specs.Steps.{evicted, lacking}
+use Rattle.model.specs.Steps.{lacking}
 use Rattle.model.proofs.Fit.{Fit}
 use Rattle.logging.proofs.Guards.{redos-appended}
 use Rattle.state.specs.View.{view, memory}
 use Rattle.steps.proofs.LineRows.{LineFit}
 use Rattle.steps.proofs.Refused.{common-fit}
-use Rattle.steps.proofs.Eviction.{few-wait, lacking-by, rows, evict-number, evict-refused, evict-fit, evict-cut, evict-done}
+use Rattle.steps.proofs.Eviction.{few-wait, lacking-by, entries-added, entries-none, rows, evict-number, evict-refused, evict-fit, evict-cut, evict-done}
 use borrow.Author.Needs.{needs}
 use Rattle.steps.proofs.evicting.evicted.Statement.{statement}
 use Rattle.steps.proofs.evicting.evicted.Tie as tie
@@ -22,6 +25,9 @@ lent c = memory (c .args .home .now) (c .args .working .now) (c .args .log .now)
 -- no common row applies
 fits : (c : tie.Start) → Fit (view (c .args .t1)) (lent c)
 fits c = common-fit (view (c .args .t1)) (lent c) (c .pre)
+
+whole-lines : (c : tie.Start) → WholeLines (c .args .t1 .lines)
+whole-lines c = search needs
 
 few : (c : tie.Start) → c .args .t1 .redos .len ≤ 32
 few c = few-wait (c .args .t1 .redos) (fits c .clauses .redoSize)
@@ -58,11 +64,16 @@ module _ (c : tie.Else1) where
       (c .if1 .left)
 
   -- as many entries are logged as lack places
-  lacks : (home log : List ℕ)
-      → taken .lacking .result ≡ lacking (view (began .args .t1)) (memory home (began .args .working .now) log) (began .args .line)
-  lacks home log =
-      lacking-by (began .args .t1) (began .args .line) (passed .below) (memory home (began .args .working .now) log) (taken .lacking .result)
-      (passed .narrow) (taken .lacking .ensures .1)
+  lacks : taken .lacking .result ≡ lacking (view (began .args .t1)) (lent began) (began .args .line)
+  lacks =
+      lacking-by (began .args .t1) (began .args .line) (passed .below) (lent began) (taken .lacking .result) (passed .narrow) (taken .lacking .ensures .1)
+
+  -- the line has a place
+  place : began .args .line < 64
+  place =
+      let below = passed .below in
+      let narrow = passed .narrow in
+      omega arith
 
 lacking-requires : tie.Need-lacking-requires
 lacking-requires c κs = few (c .before .before .before .before .before)
@@ -118,35 +129,77 @@ returns-2 c =
     let count = taken e .lacking in
     let log = logged .append-redos in
     evict-cut (a .line) (a .supply) (a .t1) (lent s) (e .before .line-refusal .result) (number (e .before)) (e .if1 .left)
-    (count .result) (lacks e (a .home .now) (a .log .now)) (count .ensures .0)
+    (count .result) (lacks e) (count .ensures .0)
     (log .last .0) (log .result) (redos-appended (count .result) (a .t1 .redos) (few s) (log .ensures))
     (ended .cut .result) (ended .cut .last .0) (ended .before .before .if2 .taken) (ended .cut .ensures .0) (ended .cut .ensures .1)
 
-set-down-requires : tie.Need-set-down-requires
-set-down-requires c κs =
-    let e = unrefused (c .before .before .before .before) in
-    let f = passed e in
-    ((f .below, (f .narrow, f .fits .working)), (taken e .lacking .ensures .0, (few (began e), (f .fits .clauses .tail, lacks e [] []))))
+-- where the line is read, and before
+abbrev logged : tie.After-line-at-arg3 → tie.After-append-redos
+logged c = c .before .before .before .before .before .before .before
+
+abbrev unread : tie.After-line-at-arg3 → tie.Else1
+unread c = unrefused (logged c)
+
+line-at-requires : tie.Need-line-at-requires
+line-at-requires c κs = place (unread c)
+
+mul-refill : tie.Need-mul-refill
+mul-refill c =
+    let h = place (unread (c .before .before .before .before .before)) in
+    omega arith
+
+refill-requires : tie.Need-refill-requires
+refill-requires c κs = few (began (unread (c .before .before .before .before .before)))
+
+put-states-requires : tie.Need-put-states-requires
+put-states-requires c κs = place (unread (c .before .before .before .before .before .before .before))
+
+-- the tail is as it was
+same-tail : (c : tie.Joined3) → c .if3 .state .tail ≡ began (unread (c .before .before .before)) .args .t1 .tail
+same-tail c = ⊎-elim (λ w. rw (w .6)) (λ w. rw (w .1)) (c .if3 .came)
+
+add-state : tie.Need-add-state
+add-state c =
+    let e = unread (c .before .before .before) in
+    let t = same-tail c in
+    let f = passed e .fits .clauses .tail in
+    let h = few (began e) in
+    omega (arith, taken e .lacking .ensures .0)
 
 same-length-3 : tie.Need-same-length-3
 same-length-3 c = search needs
 
-same-length-4 : tie.Need-same-length-4
-same-length-4 c = search needs
-
+-- a line whose words are all Clean stays, and nothing is logged for it
 returns-3 : tie.Need-returns-3
-unfolding evicted
 returns-3 c =
-    let logged = c .before .before .before .before .before in
-    let e = unrefused logged in
+    let read = c .before .before in
+    let log = logged (read .before) .append-redos in
+    let e = unread (read .before) in
     let s = began e in
     let a = s .args in
+    let f = passed e in
     let count = taken e .lacking in
-    let log = logged .append-redos in
-    evict-done (a .line) (a .supply) (a .t1) (lent s) (e .before .line-refusal .result) (number (e .before)) (e .if1 .left)
-    (count .result) (lacks e (a .home .now) (a .log .now)) (count .ensures .0)
+    let done = evict-done (a .line) (a .supply) (a .t1) (lent s) (e .before .line-refusal .result) (number (e .before)) (e .if1 .left)
+    (count .result) (lacks e) (count .ensures .0)
     (log .last .0) (log .result) (redos-appended (count .result) (a .t1 .redos) (few s) (log .ensures))
-    (c .set-down .result) (c .before .before .if2 .left) (c .set-down .ensures)
+    (read .before .before .before .before .before .if2 .left) (whole-lines s) in
+    ⊎-elim
+    (λ w.
+    let more = w .3 .ensures in
+    rw (w .6)
+    (done (w .3 .result) (w .5 .last .0)
+    (entries-added (a .t1) (a .line) (f .below) (lent s) (count .result) (lacks e) (count .ensures .0) (w .3 .result) (f .narrow) (f .fits .working)
+    (rw (read .line-at .ensures) at more))
+    (w .5 .ensures)))
+    (λ w.
+    let states = a .t1 .lines .states in
+    let left = w .0 .left in
+    let clean : getD states (a .line) 0 ≡ 0 = rw (read .line-at .ensures) at left in
+    rw (w .1)
+    (done (a .t1 .redos) states
+    (entries-none (a .t1) (a .line) (f .below) (lent s) (count .result) (lacks e) (count .ensures .0) clean (few s))
+    (sym (set-getD states (a .line) 0) ∙ ap (set states (a .line)) clean)))
+    (c .if3 .came)
 
 pub evicted-spec : {M : Type 1} → statement M
 evicted-spec =
@@ -163,7 +216,10 @@ evicted-spec =
     same-length
     same-length-2
     returns-2
-    set-down-requires
+    line-at-requires
+    mul-refill
+    refill-requires
+    put-states-requires
+    add-state
     same-length-3
-    same-length-4
     returns-3)

@@ -19,19 +19,19 @@ pub struct Entry {
 
 // The undo+redo buffer: up to 16 entries, by their fields, oldest first. Places from `len` on are not in use.
 pub struct UndoBuffer {
+    pub undos: [u64; 16],
+    pub redos: [u64; 16],
     pub len: usize,
     pub threads: [u8; 16],
     pub words: [u16; 16],
-    pub undos: [u64; 16],
-    pub redos: [u64; 16],
 }
 
 // The redo buffer: up to 32 entries, in the same way. A redo entry has no undo.
 pub struct RedoBuffer {
+    pub redos: [u64; 32],
     pub len: usize,
     pub threads: [u8; 32],
     pub words: [u16; 32],
-    pub redos: [u64; 32],
 }
 
 // What the state keeps of a line of eight words.

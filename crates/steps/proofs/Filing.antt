@@ -34,6 +34,10 @@ pub logs-by : (m : Machine) (w : ℕ) (same t : Bool) (k n : ℕ) → k ≡ stat
 unfolding storeLogs
 logs-by m w same t k n a b e = rw (← e, a, b)
 
+-- the test lets pass only a full buffer
+pub logs-full : (same : Bool) (k n : ℕ) → (not same && (eqb k 0 && leb 16 n)) ≡ true → 16 ≤ n
+logs-full same k n e = leb-true 16 n (both-right (eqb k 0) (leb 16 n) (both-right (not same) (eqb k 0 && leb 16 n) e))
+
 -- it is one at most, and no more than wait
 pub logs-most : (m : Machine) (w : ℕ) (same : Bool) → (storeLogs m w same ≤ 1) × (storeLogs m w same ≤ length (m .undoRedo))
 unfolding storeLogs

@@ -1,11 +1,14 @@
 -- A step of the code as a step of the model, and the rows that come before a step's own.
-use mathlib.Core.Bool.{not}
+use Prim.Native.Nat.{ℕ}
+use mathlib.Core.Path.{_≡_}
+use mathlib.Core.Bool.{Bool, not}
 use mathlib.Core.List.{List, [], _∷_}
 use Rattle.model.specs.Machine.{Machine, Memory}
 use Rattle.model.specs.Consistent.{consistent}
 use Rattle.model.specs.Refusals.{Row, row, lost, inconsistent, common}
 use Rattle.model.specs.Step.{begin, store, logUndo, logRedo, evict, writeBack, commit, deleteOldest, recover}
 use Rattle.model.specs.Step as model
+use Rattle.state.specs.declared.Fields.{Fields}
 use Rattle.steps.specs.declared.Step.{Step}
 use Rattle.steps.specs.declared.Step.the-variants.{Begin, Store, LogUndo, LogRedo, Evict, WriteBack, Commit, DeleteOldest, Recover}
 
@@ -19,6 +22,12 @@ stepOf (WriteBack i) = writeBack i
 stepOf (Commit t) = commit t
 stepOf DeleteOldest = deleteOldest
 stepOf Recover = recover
+
+-- Arrays taken out of a state: who has an open transaction, and the holders and states of the lines.
+pub record TakenOut (opened : List Bool) (holders states : List ℕ) (s : Fields) : Type 0 where
+  pub isOpened : opened ≡ s .opened
+  pub isHolders : holders ≡ s .lines .holders
+  pub isStates : states ≡ s .lines .states
 
 -- the rows of a step that takes a state but is lent no buffers
 abbrev pub stateRows : Machine → List Row

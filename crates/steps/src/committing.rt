@@ -12,6 +12,7 @@ ghost use Rattle.model.specs.Steps.{commitRecords};
 ghost use Rattle.model.specs.Step.{commit, stepped};
 ghost use Rattle.state.specs.View.{view, memory, shown};
 ghost use Rattle.steps.specs.Committing.{HasEntries, HasLog, Allowed};
+ghost use Rattle.steps.specs.Steps.{TakenOut};
 use crate::refusals::no_room;
 use crate::refusals::refuse;
 use crate::refusals::refused;
@@ -117,31 +118,28 @@ fn carry_out(
     }
 }
 
-// The step, of a state that the common rows do not refuse.
-pub fn committed(
+// The step, of a state that the common rows do not refuse; the lent arrays are taken out of it.
+pub fn committed<'a>(
     state: Fields,
+    opened: &'a [bool; 8],
+    holders: &'a [u8; 64],
+    states: &'a [u16; 64],
     home: &[u64],
     working: &mut [u64],
     log: &mut [u64],
     supply: u64,
     thread: u64,
 ) -> Made
+    requires { ⌜ TakenOut (now opened) (now holders) (now states) state ⌝ }
     requires { ⌜ numberOf (commonRows (view state) (memory (now home) (now working) (now log))) ≡ 0 ⌝ }
     ensures { λ (r : Made). ⌜ shown r (now (home .entry)) (now (working .exit)) (now (log .exit))
         ≡ stepped (commit thread) supply (view state) (memory (now (home .entry)) (now (working .entry)) (now (log .entry))) ⌝ }
 {
     let undos = state.undos.len;
     let redos = state.redos.len;
-    let count = count_records(
-        undos,
-        redos,
-        state.words,
-        &state.lines.holders,
-        &state.lines.states,
-        thread,
-    );
-    let opened = state.opened[(thread % 8) as usize];
-    let number = commit_refusal(opened, state.slots, state.head, state.tail, thread, count);
+    let count = count_records(undos, redos, state.words, holders, states, thread);
+    let open = opened[(thread % 8) as usize];
+    let number = commit_refusal(open, state.slots, state.head, state.tail, thread, count);
     if number != 0 {
         return refused(number, supply, state);
     }

@@ -21,13 +21,8 @@ pub fn deleted(
     ensures { λ (r : Made). ⌜ shown r (now (home .entry)) (now (working .exit)) (now (log .exit))
         ≡ stepped deleteOldest supply (view state) (memory (now (home .entry)) (now (working .entry)) (now (log .entry))) ⌝ }
 {
-    let number = recovery::delete_refusal(
-        state.head,
-        state.tail,
-        state.words,
-        &state.lines.dirty,
-        log,
-    );
+    let dirty = state.lines.dirty;
+    let number = recovery::delete_refusal(state.head, state.tail, state.words, &dirty, log);
     if number != 0 {
         return refused(number, supply, state);
     }

@@ -5,7 +5,7 @@ ghost use Rattle.model.specs.Consistent.{consistent};
 ghost use Rattle.model.specs.Refusals.{numberOf};
 ghost use Rattle.model.specs.Step.{stepped};
 ghost use Rattle.state.specs.View.{view, memory, shown};
-ghost use Rattle.steps.specs.Steps.{stepOf, early};
+ghost use Rattle.steps.specs.Steps.{stepOf, early, TakenOut};
 use crate::Step;
 use crate::beginning::begun;
 use crate::committing::committed;
@@ -48,15 +48,19 @@ fn unfit(
     }
 }
 
-// The step, if none of these rows refuses it.
-fn made(
+// The step, if none of these rows refuses it. The lent arrays are the state's own, taken out of it to be looked at.
+fn made<'a>(
     state: Fields,
+    opened: &'a [bool; 8],
+    holders: &'a [u8; 64],
+    states: &'a [u16; 64],
     step: Step,
     home: &mut [u64],
     working: &mut [u64],
     log: &mut [u64],
     supply: u64,
 ) -> Made
+    requires { ⌜ TakenOut (now opened) (now holders) (now states) state ⌝ }
     requires { ⌜ numberOf (early (stepOf step) (view state) (memory (now home) (now working) (now log))) ≡ 0 ⌝ }
     ensures { λ (r : Made). ⌜ shown r (now (home .exit)) (now (working .exit)) (now (log .exit))
         ≡ stepped (stepOf step) supply (view state) (memory (now (home .entry)) (now (working .entry)) (now (log .entry))) ⌝ }
@@ -67,12 +71,34 @@ fn made(
             thread,
             word,
             value,
-        } => stored(state, home, working, log, supply, thread, word, value),
+        } => stored(
+            state,
+            opened,
+            holders,
+            states,
+            home,
+            working,
+            log,
+            supply,
+            thread,
+            word,
+            value,
+        ),
         Step::LogUndo => undo_logged(state, home, working, log, supply),
         Step::LogRedo => redo_logged(state, home, working, log, supply),
         Step::Evict { line } => evicted(state, home, working, log, supply, line),
-        Step::WriteBack { line } => written_back(state, home, working, log, supply, line),
-        Step::Commit { thread } => committed(state, home, working, log, supply, thread),
+        Step::WriteBack { line } => written_back(state, states, home, working, log, supply, line),
+        Step::Commit { thread } => committed(
+            state,
+            opened,
+            holders,
+            states,
+            home,
+            working,
+            log,
+            supply,
+            thread,
+        ),
         Step::DeleteOldest => deleted(state, home, working, log, supply),
         Step::Recover => recover(home, working, log, supply),
     }
@@ -126,5 +152,15 @@ pub fn make(
     if number != 0 {
         return refused(number, supply, state);
     }
-    made(state, step, home, working, log, supply)
+    made(
+        state,
+        &opened,
+        &holders,
+        &states,
+        step,
+        home,
+        working,
+        log,
+        supply,
+    )
 }

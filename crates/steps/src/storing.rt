@@ -11,7 +11,10 @@ ghost use Rattle.model.specs.Machine.{Machine, Memory, holderIn};
 ghost use Rattle.model.specs.Refusals.{numberOf, common as commonRows, unknownThread, unknownWord};
 ghost use Rattle.model.specs.Step.{store, stepped};
 ghost use Rattle.model.specs.Steps.{storeLogs, storeNext};
+ghost use Rattle.logging.specs.Progressed.{Stored};
+ghost use Rattle.logging.specs.Records.{undoRecordsOf};
 ghost use Rattle.state.specs.View.{view, memory, shown};
+ghost use Rattle.steps.specs.Steps.{TakenOut};
 use crate::places::find;
 use crate::places::put_flag;
 use crate::places::put_holder;
@@ -28,6 +31,7 @@ use line_walks::mark;
 use logging::append_undos;
 use parts::Entry;
 use parts::Lines;
+use parts::UndoBuffer;
 use state::DONE;
 use state::Fields;
 use state::HELD;
@@ -56,14 +60,18 @@ pub fn held_by_another(holders: &[u8; 64], thread: u64, word: u16) -> bool
     (holder != 255) & (holder != thread)
 }
 
-// How many entries a store logs first: the oldest, if another value comes to a Clean word and 16 entries wait.
+// How many entries a store logs first, as a place is lacking: the oldest, if another value comes to a Clean word and 16 entries wait.
 pub fn logs_first(states: &[u16; 64], len: usize, word: u16, same: bool) -> usize
-    requires { ⌜ word < 512 ⌝ }
+    requires { ⌜ (word < 512) × (len ≤ 16) ⌝ }
     ensures { λ r. ⌜ ((s : Fields) → s .lines .states ≡ now (states .entry) → s .undos .len ≡ len → word / 8 < s .words / 8
         → r ≡ storeLogs (view s) word same) ⌝ }
 {
     let clean = state_of(states, word) == CLEAN;
-    if !same & (clean & (16 <= len)) { 1 } else { 0 }
+    if !same & (clean & (16 <= len)) {
+        len + 1 - 16
+    } else {
+        0
+    }
 }
 
 // The state after a store that replaces `entry.undo` by `entry.redo` and that logs `count` entries first.
@@ -132,9 +140,30 @@ pub fn late_refusal(idle: bool, taken: bool, count: usize, slots: u16, head: u64
     )
 }
 
-// The step, of a state that the common rows do not refuse.
-pub fn stored(
+// The oldest entries of the undo+redo buffer are logged.
+fn append_oldest(undos: UndoBuffer, count: usize, log: &mut [u64], tail: u64, supply: u64) -> u64
+    ensures { λ r. ⌜ Stored supply (now (log .entry)) tail
+        (undoRecordsOf count (undos .len) (undos .threads) (undos .words) (undos .undos) (undos .redos)) (now (log .exit)) r ⌝ }
+{
+    append_undos(
+        log,
+        tail,
+        undos.len,
+        &undos.threads,
+        &undos.words,
+        &undos.undos,
+        &undos.redos,
+        count,
+        supply,
+    )
+}
+
+// The step, of a state that the common rows do not refuse; the lent arrays are taken out of it.
+pub fn stored<'a>(
     state: Fields,
+    opened: &'a [bool; 8],
+    holders: &'a [u8; 64],
+    states: &'a [u16; 64],
     home: &[u64],
     working: &mut [u64],
     log: &mut [u64],
@@ -143,6 +172,7 @@ pub fn stored(
     word: u64,
     value: u64,
 ) -> Made
+    requires { ⌜ TakenOut (now opened) (now holders) (now states) state ⌝ }
     requires { ⌜ numberOf (commonRows (view state) (memory (now home) (now working) (now log))) ≡ 0 ⌝ }
     ensures { λ (r : Made). ⌜ shown r (now (home .entry)) (now (working .exit)) (now (log .exit))
         ≡ stepped (store thread word value) supply (view state) (memory (now (home .entry)) (now (working .entry)) (now (log .entry))) ⌝ }
@@ -158,25 +188,19 @@ pub fn stored(
         undo: working[at],
         redo: value,
     };
-    let idle = !state.opened[thread as usize];
-    let taken = held_by_another(&state.lines.holders, thread, entry.word);
+    let idle = !opened[thread as usize];
+    let taken = held_by_another(holders, thread, entry.word);
     let same = value == entry.undo;
-    let count = logs_first(&state.lines.states, state.undos.len, entry.word, same);
+    let count = logs_first(states, state.undos.len, entry.word, same);
     let late = late_refusal(idle, taken, count, state.slots, state.head, state.tail);
     if late != 0 {
         return refused(late, supply, state);
     }
-    let left = append_undos(
-        log,
-        state.tail,
-        state.undos.len,
-        &state.undos.threads,
-        &state.undos.words,
-        &state.undos.undos,
-        &state.undos.redos,
-        count,
-        supply,
-    );
+    let mut left = supply;
+    if count != 0 {
+        let undos = state.undos;
+        left = append_oldest(undos, count, log, state.tail, supply);
+    }
     if supply < 3 * count as u64 {
         return cut(working);
     }

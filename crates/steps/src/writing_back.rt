@@ -34,20 +34,22 @@ pub fn line_refusal(words: u16, states: &[u16; 64], line: u64, rest: u64) -> u64
     )
 }
 
-// The step, of a state that the common rows do not refuse.
+// The step, of a state that the common rows do not refuse; `states` are its lines' own.
 pub fn written_back(
     mut state: Fields,
+    states: &[u16; 64],
     home: &mut [u64],
     working: &mut [u64],
     log: &[u64],
     supply: u64,
     line: u64,
 ) -> Made
+    requires { ⌜ now states ≡ state .lines .states ⌝ }
     requires { ⌜ numberOf (commonRows (view state) (memory (now home) (now working) (now log))) ≡ 0 ⌝ }
     ensures { λ (r : Made). ⌜ shown r (now (home .exit)) (now (working .exit)) (now (log .entry))
         ≡ stepped (writeBack line) supply (view state) (memory (now (home .entry)) (now (working .entry)) (now (log .entry))) ⌝ }
 {
-    let number = line_refusal(state.words, &state.lines.states, line, 0);
+    let number = line_refusal(state.words, states, line, 0);
     if number != 0 {
         return refused(number, supply, state);
     }
@@ -56,7 +58,9 @@ pub fn written_back(
     if supply < 8 {
         return cut(working);
     }
-    put_flag(&mut state.lines.dirty, at, false);
+    let mut lines = state.lines;
+    put_flag(&mut lines.dirty, at, false);
+    state.lines = lines;
     Made {
         answer: DONE,
         left: left,

@@ -1,9 +1,11 @@
 -- `committing::committed` meets its contract: refused by a row of its own, cut, or done.
-use mathlib.Core.Path.{_≡_, refl, sym, _∙_}
-use mathlib.Core.List.{_∷_}
+use Prim.Native.Nat.{_%_}
+use mathlib.Core.Path.{_≡_, refl, sym, _∙_, ap}
+use mathlib.Core.Bool.{Bool, false}
+use mathlib.Core.List.{List, _∷_}
 use native.Mathlib.Omega.{arith}
 use borrow.Author.Needs.{needs}
-use lib.ListN.{length}
+use lib.ListN.{length, getD}
 use Rattle.model.specs.Refusals.{numberOf, unknownThread, notOpen, noRoom}
 use Rattle.model.specs.Steps.{commitRecords}
 use Rattle.state.specs.View.{view, memory}
@@ -13,45 +15,54 @@ use Rattle.steps.proofs.committing.committed.Statement.{statement}
 use Rattle.steps.proofs.committing.committed.Tie as tie
 
 -- no common row applies
-size : (c : tie.Start) → Sizes (c .args .t1)
+size : (c : tie.Start) → Sizes (c .args .state)
 size c =
     let a = c .args in
-    sized (a .t1) (a .thread) (a .supply) (a .home .now) (a .working .now) (a .log .now) (c .pre)
+    sized (a .state) (a .thread) (a .supply) (a .home .now) (a .working .now) (a .log .now) (c .pre .1)
 
 -- how many records there are
 counted : (c : tie.After-count-records)
-    → let a = c .before .before .before .before .before .before .before .args in
-    c .count-records .result ≡ length (commitRecords (view (a .t1)) (memory (a .home .now) (a .working .now) (a .log .now)) (a .thread))
+    → let a = c .before .before .before .before .args in
+    c .count-records .result ≡ length (commitRecords (view (a .state)) (memory (a .home .now) (a .working .now) (a .log .now)) (a .thread))
 counted c =
-    let a = c .before .before .before .before .before .before .before .args in
-    c .count-records .ensures .0 (a .t1) (record { undos = refl; redos = refl; words = refl; holders = refl; states = refl })
+    let start = c .before .before .before .before in
+    let a = start .args in
+    let out = start .pre .0 in
+    c .count-records .ensures .0 (a .state)
+    (record { undos = refl; redos = refl; words = refl; holders = sym (out .isHolders); states = sym (out .isStates) })
     (memory (a .home .now) (a .working .now) (a .log .now))
 
 count-records-requires : tie.Need-count-records-requires
 count-records-requires c κs =
-    let z = size (c .before .before .before .before .before .before) in
+    let z = size (c .before .before .before) in
     (omega arith, (omega arith, (omega arith, omega arith)))
 
-element-copy-out-opened : tie.Need-element-copy-out-opened
-element-copy-out-opened c = search needs
+element-copy-out-open : tie.Need-element-copy-out-open
+element-copy-out-open c = search needs
 
 commit-refusal-requires : tie.Need-commit-refusal-requires
 commit-refusal-requires c κs =
-    let z = size (c .before .before .before .before .before .before .before .before) in
+    let z = size (c .before .before .before .before .before) in
     let n = c .before .count-records .ensures .1 in
     (omega arith, (omega arith, (omega arith, omega arith)))
 
 -- the number of the rows after the common ones
 later : (c : tie.After-commit-refusal)
-    → let a = c .before .before .before .before .before .before .before .before .before .args in
+    → let a = c .before .before .before .before .before .before .args in
     c .commit-refusal .result
-    ≡ numberOf (unknownThread (a .thread) ∷ notOpen (view (a .t1)) (a .thread)
-    ∷ noRoom (view (a .t1)) (commitRecords (view (a .t1)) (memory (a .home .now) (a .working .now) (a .log .now)) (a .thread)))
+    ≡ numberOf (unknownThread (a .thread) ∷ notOpen (view (a .state)) (a .thread)
+    ∷ noRoom (view (a .state)) (commitRecords (view (a .state)) (memory (a .home .now) (a .working .now) (a .log .now)) (a .thread)))
 later c =
-    let a = c .before .before .before .before .before .before .before .before .before .args in
+    let start = c .before .before .before .before .before .before in
+    let a = start .args in
     let mem = memory (a .home .now) (a .working .now) (a .log .now) in
-    c .commit-refusal .ensures (view (a .t1)) (commitRecords (view (a .t1)) mem (a .thread))
-    (record { opened = refl; slots = refl; head = refl; tail = refl }) (counted (c .before .before))
+    c .commit-refusal .ensures (view (a .state)) (commitRecords (view (a .state)) mem (a .thread))
+    (record {
+      opened = ap (λ (os : List Bool). getD os (a .thread % 8) false) (sym (start .pre .0 .isOpened));
+      slots = refl;
+      head = refl;
+      tail = refl;
+    }) (counted (c .before .before))
 
 refused-requires : tie.Need-refused-requires
 refused-requires c κs = search needs
@@ -59,19 +70,19 @@ refused-requires c κs = search needs
 returns : tie.Need-returns
 returns c =
     let refusal = c .before .before in
-    let start = refusal .before .before .before .before .before .before .before .before .before in
+    let start = refusal .before .before .before .before .before .before in
     let a = start .args in
     rw (c .refused .ensures)
-    (commit-refused (a .t1) (a .thread) (a .supply) (a .home .now) (a .working .now) (a .log .now) (start .pre)
+    (commit-refused (a .state) (a .thread) (a .supply) (a .home .now) (a .working .now) (a .log .now) (start .pre .1)
     (refusal .commit-refusal .result) (later refusal) (c .before .if1 .taken))
 
 -- no row applies
 allowed : (c : tie.Else1)
-    → let a = c .before .before .before .before .before .before .before .before .before .before .args in
-    Allowed (a .thread) (c .before .before .before .count-records .result) (view (a .t1)) (memory (a .home .now) (a .working .now) (a .log .now))
+    → let a = c .before .before .before .before .before .before .before .args in
+    Allowed (a .thread) (c .before .before .before .count-records .result) (view (a .state)) (memory (a .home .now) (a .working .now) (a .log .now))
 allowed c =
     record {
-      common = c .before .before .before .before .before .before .before .before .before .before .pre;
+      common = c .before .before .before .before .before .before .before .pre .1;
       others = sym (later (c .before)) ∙ c .if1 .left;
       records = counted (c .before .before .before);
     }
@@ -79,10 +90,10 @@ allowed c =
 carry-out-requires : tie.Need-carry-out-requires
 carry-out-requires c κs =
     let passed = c .before .before in
-    let start = passed .before .before .before .before .before .before .before .before .before .before in
+    let start = passed .before .before .before .before .before .before .before in
     let a = start .args in
     let y = size start in
-    let z = ready (a .t1) (a .thread) (a .supply) (a .home .now) (a .working .now) (a .log .now) (start .pre)
+    let z = ready (a .state) (a .thread) (a .supply) (a .home .now) (a .working .now) (a .log .now) (start .pre .1)
     (passed .before .commit-refusal .result) (later (passed .before)) (passed .if1 .left) in
     let n = counted (passed .before .before .before) in
     let h = z .below in
@@ -97,7 +108,7 @@ same-length-2 c = search needs
 returns-2 : tie.Need-returns-2
 returns-2 c =
     let passed = c .before .before .before .before .before .before .before in
-    let a = passed .before .before .before .before .before .before .before .before .before .before .args in
+    let a = passed .before .before .before .before .before .before .before .args in
     c .before .before .before .before .carry-out .ensures (a .home .now) (allowed passed)
 
 pub committed-spec : {M : Type 1} → statement M
@@ -105,7 +116,7 @@ committed-spec =
     tie.close
     (tie.spec
     count-records-requires
-    element-copy-out-opened
+    element-copy-out-open
     commit-refusal-requires
     refused-requires
     returns

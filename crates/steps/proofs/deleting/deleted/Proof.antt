@@ -16,7 +16,7 @@ start c = c .before .before .before .before .before .before .before
 
 -- the state and the buffers
 abbrev taken : tie.Start → Fields
-taken s = s .args .t1
+taken s = s .args .state
 
 abbrev lent : tie.Start → Memory
 lent s = memory (s .args .home .now) (s .args .working .now) (s .args .log .now)
@@ -50,8 +50,8 @@ zero c = sym (c .if1 .left) ∙ number (c .before)
 
 add-head : tie.Need-add-head
 add-head c =
-    let s = start (c .before) in
-    let f = fits-all (s .args .supply) (view (taken s)) (lent s) (zero c) in
+    let s = start (c .before .before) in
+    let f = fits-all (s .args .supply) (view (taken s)) (lent s) (zero (c .before)) in
     let k = f .clauses in
     omega arith
 
@@ -69,7 +69,7 @@ same-length-3 c = search needs
 
 returns-2 : tie.Need-returns-2
 returns-2 c =
-    let passed = c .before .before .before .before .before .before .before .before .before in
+    let passed = c .before .before .before .before .before .before .before .before .before .before in
     let s = start (passed .before) in
     let out = c .before .before .cut in
     delete-cut (s .args .supply) (view (taken s)) (lent s) (zero passed) _
@@ -86,7 +86,7 @@ same-length-4 c = search needs
 
 returns-3 : tie.Need-returns-3
 returns-3 c =
-    let passed = c .before .before .before .before .before in
+    let passed = c .before .before .before .before .before .before in
     let s = start (passed .before) in
     let moved = c .before .before .before .set-head in
     delete-done (s .args .supply) (view (taken s)) (lent s) (zero passed) _ (c .if2 .left)

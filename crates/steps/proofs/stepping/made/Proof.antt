@@ -3,7 +3,7 @@ use mathlib.Core.Path.{_≡_, subst}
 use borrow.Author.Needs.{needs}
 use Rattle.model.specs.Refusals.{numberOf}
 use Rattle.state.specs.View.{view, memory}
-use Rattle.steps.specs.Steps.{stepOf, early}
+use Rattle.steps.specs.Steps.{stepOf, early, TakenOut}
 use Rattle.steps.specs.declared.Step.{Step}
 use Rattle.recovery.proofs.RecoverStep.{recover-any}
 use Rattle.steps.proofs.stepping.made.Statement.{statement}
@@ -16,7 +16,11 @@ passed : (c : tie.After-slice-known3) (s : Step)
 passed c s e =
     let a = c .before .before .before .args in
     subst (λ (x : Step). numberOf (early (stepOf x) (view (a .state)) (memory (a .home .now) (a .working .now) (a .log .now))) ≡ 0) e
-    (c .before .before .before .pre)
+    (c .before .before .before .pre .1)
+
+-- the lent arrays are those of the state
+own : (c : tie.After-slice-known3) → let a = c .before .before .before .args in TakenOut (a .opened .now) (a .holders .now) (a .states .now) (a .state)
+own c = c .before .before .before .pre .0
 
 enum-known-step : tie.Need-enum-known-step
 enum-known-step c = search needs
@@ -30,7 +34,7 @@ enum-known-step-2 c = search needs
 stored-requires : tie.Need-stored-requires
 stored-requires c κs =
     let d = c .before .before .before .before in
-    passed (d .before .before) _ (d .step2 .given .1)
+    (own (d .before .before), passed (d .before .before) _ (d .step2 .given .1))
 
 enum-told : tie.Need-enum-told
 enum-told c = search needs
@@ -62,7 +66,7 @@ enum-known-step-4 c = search needs
 written-back-requires : tie.Need-written-back-requires
 written-back-requires c κs =
     let d = c .before .before .before .before in
-    passed (d .before .before) _ (d .step4 .given .1)
+    (own (d .before .before) .isStates, passed (d .before .before) _ (d .step4 .given .1))
 
 enum-known-step-5 : tie.Need-enum-known-step-5
 enum-known-step-5 c = search needs
@@ -70,7 +74,7 @@ enum-known-step-5 c = search needs
 committed-requires : tie.Need-committed-requires
 committed-requires c κs =
     let d = c .before .before .before .before in
-    passed (d .before .before) _ (d .step5 .given .1)
+    (own (d .before .before), passed (d .before .before) _ (d .step5 .given .1))
 
 enum-told-3 : tie.Need-enum-told-3
 enum-told-3 c = search needs

@@ -57,8 +57,8 @@ returns c =
 
 made-requires : tie.Need-made-requires
 made-requires c κs =
-    let e = c .before .before .before in
-    sym (number (e .before)) ∙ e .if1 .left
+    let e = c .before .before .before .before .before .before in
+    (record { isOpened = refl; isHolders = refl; isStates = refl }, sym (number (e .before)) ∙ e .if1 .left)
 
 same-length-4 : tie.Need-same-length-4
 same-length-4 c = search needs

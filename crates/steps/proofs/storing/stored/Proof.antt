@@ -1,17 +1,21 @@
 -- `stored` hands back what the model's store gives. Assumes nothing.
-use Prim.Native.Nat.{_/_, _≤_}
+use Prim.Native.Nat.{ℕ, _/_, _≤_}
 use mathlib.Core.Path.{_≡_, refl, sym, _∙_}
 use mathlib.Core.Bool.{Bool}
+use mathlib.Core.List.{List}
+use mathlib.Core.Logic.{⊎-elim}
 use borrow.Author.Needs.{needs}
 use native.Mathlib.Omega.{arith}
 use lib.Dec.{eqb}
 use lib.ListN.{getD}
-use Rattle.model.specs.Machine.{Memory}
+use Rattle.log.specs.declared.Record.{Record}
+use Rattle.model.specs.Machine.{Machine, Memory}
 use Rattle.model.specs.Refusals.{numberOf}
 use Rattle.model.specs.Steps.{storeLogs, undoRecords}
-use Rattle.logging.proofs.Appending.{Appended}
+use Rattle.logging.proofs.Appending.{Appended, appended-none, appended-length}
 use Rattle.logging.proofs.Guards.{undos-appended}
 use Rattle.state.specs.View.{view, memory}
+use Rattle.steps.specs.Steps.{TakenOut}
 use Rattle.steps.proofs.Filing.{logs-most, undos-length, redos-length}
 use Rattle.steps.proofs.Refused.{refused-then}
 use Rattle.steps.proofs.StoreRows.{placeRows, earlyRows, storeRows, late-number, place-refused, place-passed, late-decides, Known, known}
@@ -35,11 +39,11 @@ begin c = c .before .before .before .before
 
 -- the number of the early rows is that of the rows on thread and word
 early-here : (c : tie.After-early-refusal) → let a = begin c .args in
-    c .early-refusal .result ≡ numberOf (earlyRows (view (a .t1)) (lent (begin c)) (a .thread) (a .word))
+    c .early-refusal .result ≡ numberOf (earlyRows (view (a .state)) (lent (begin c)) (a .thread) (a .word))
 early-here c =
     let a = begin c .args in
-    c .early-refusal .ensures (view (a .t1)) refl
-    ∙ refused-then (view (a .t1)) (lent (begin c)) (begin c .pre) (placeRows (view (a .t1)) (a .thread) (a .word))
+    c .early-refusal .ensures (view (a .state)) refl
+    ∙ refused-then (view (a .state)) (lent (begin c)) (begin c .pre .1) (placeRows (view (a .state)) (a .thread) (a .word))
 
 returns : tie.Need-returns
 returns c =
@@ -47,8 +51,8 @@ returns c =
     let a = s .args in
     let early = c .before .before .early-refusal in
     rw (c .refused .ensures)
-    (store-refused (a .t1) (lent s) (a .supply) (a .thread) (a .word) (a .value) (early .result)
-    (place-refused (view (a .t1)) (lent s) (a .thread) (a .word) (a .value) (early .result) (early-here (c .before .before)) (c .before .if1 .taken))
+    (store-refused (a .state) (lent s) (a .supply) (a .thread) (a .word) (a .value) (early .result)
+    (place-refused (view (a .state)) (lent s) (a .thread) (a .word) (a .value) (early .result) (early-here (c .before .before)) (c .before .if1 .taken))
     (c .before .if1 .taken))
 
 -- no early row refuses the store
@@ -56,31 +60,31 @@ module _ (c : tie.Else1) where
   abbrev start : tie.Start
   start = begin (c .before)
 
-  known-here : Known (view (start .args .t1)) (lent start) (start .args .thread) (start .args .word)
+  known-here : Known (view (start .args .state)) (lent start) (start .args .thread) (start .args .word)
   known-here =
-      known (view (start .args .t1)) (lent start) (start .args .thread) (start .args .word)
-      (place-passed (view (start .args .t1)) (lent start) (start .args .thread) (start .args .word) (start .args .value)
+      known (view (start .args .state)) (lent start) (start .args .thread) (start .args .word)
+      (place-passed (view (start .args .state)) (lent start) (start .args .thread) (start .args .word) (start .args .value)
       (c .before .early-refusal .result) (early-here (c .before)) (c .if1 .left))
 
-cast-t22 : tie.Need-cast-t22
-cast-t22 c =
+cast-t23 : tie.Need-cast-t23
+cast-t23 c =
     let thread = known-here c .thread in
     omega arith
 
-cast-late-refusal : tie.Need-cast-late-refusal
-cast-late-refusal c =
+cast-t24 : tie.Need-cast-t24
+cast-t24 c =
     let word = known-here c .word in
     let most = known-here c .width .most in
     omega arith
 
-mul-late-refusal : tie.Need-mul-late-refusal
-mul-late-refusal c =
+mul-if4 : tie.Need-mul-if4
+mul-if4 c =
     let word = known-here c .word in
     let most = known-here c .width .most in
     omega arith
 
-slice-read-late-refusal : tie.Need-slice-read-late-refusal
-slice-read-late-refusal c =
+slice-read-if4 : tie.Need-slice-read-if4
+slice-read-if4 c =
     let word = known-here (c .before) .word in
     let length = known-here (c .before) .fits .working in
     omega arith
@@ -92,35 +96,41 @@ element-copy-out-idle c =
 
 held-by-another-requires : tie.Need-held-by-another-requires
 held-by-another-requires c κs =
-    let k = known-here (c .before .before .before .before) in
+    let k = known-here (c .before .before) in
     let word = k .word in
     let most = k .width .most in
     omega arith
 
 logs-first-requires : tie.Need-logs-first-requires
 logs-first-requires c κs =
-    let k = known-here (c .before .before .before .before .before .before .before .before) in
+    let here = c .before .before .before .before in
+    let k = known-here here in
     let word = k .word in
     let most = k .width .most in
-    omega arith
+    let few = k .fits .clauses .undoSize in
+    let len = undos-length (start here .args .state .undos) in
+    (omega arith, omega arith)
 
 -- how many entries are logged first
 module _ (c : tie.After-logs-first) where
   abbrev passed : tie.Else1
-  passed = c .before .before .before .before .before .before .before .before .before
+  passed = c .before .before .before .before .before
+
+  abbrev out : TakenOut (start passed .args .opened .now) (start passed .args .holders .now) (start passed .args .states .now) (start passed .args .state)
+  out = start passed .pre .0
 
   abbrev same : Bool
   same = eqb (start passed .args .value) (getD (start passed .args .working .now) (start passed .args .word) 0)
 
-  count-here : c .logs-first .result ≡ storeLogs (view (start passed .args .t1)) (start passed .args .word) same
+  count-here : c .logs-first .result ≡ storeLogs (view (start passed .args .state)) (start passed .args .word) same
   count-here =
       let word = known-here passed .word in
       let whole = known-here passed .width .whole in
-      c .logs-first .ensures (start passed .args .t1) refl refl (omega arith)
+      c .logs-first .ensures (start passed .args .state) (sym (out .isStates)) refl (omega arith)
 
   count-few : c .logs-first .result ≤ 1
   count-few =
-      let few = logs-most (view (start passed .args .t1)) (start passed .args .word) same .0 in
+      let few = logs-most (view (start passed .args .state)) (start passed .args .word) same .0 in
       let count = count-here in
       omega arith
 
@@ -139,19 +149,19 @@ module _ (c : tie.After-late-refusal) where
   begun = start (passed (c .before))
 
   late-here : c .late-refusal .result
-      ≡ numberOf (storeRows (view (begun .args .t1)) (lent begun) (begun .args .thread) (begun .args .word) (begun .args .value))
+      ≡ numberOf (storeRows (view (begun .args .state)) (lent begun) (begun .args .thread) (begun .args .word) (begun .args .value))
   late-here =
       let here = passed (c .before) in
       let a = begun .args in
       let k = known-here here in
       let word = k .word in
       let whole = k .width .whole in
-      let taken = c .before .before .before .before .before .held-by-another in
-      late-number (a .t1) (a .thread) (a .word) (same (c .before)) (taken .result)
+      let taken = c .before .before .before .held-by-another in
+      late-number (a .state) (a .thread) (a .word) (same (c .before)) (taken .result)
       (c .before .logs-first .result) (c .late-refusal .result) (count-here (c .before))
-      (taken .ensures (a .t1 .lines) refl (a .t1 .words / 8) (omega arith))
-      (c .late-refusal .ensures)
-      ∙ late-decides (view (a .t1)) (lent begun) (a .thread) (a .word) (a .value) (here .before .early-refusal .result)
+      (taken .ensures (a .state .lines) (sym (out (c .before) .isHolders)) (a .state .words / 8) (omega arith))
+      (rw (out (c .before) .isOpened) at (c .late-refusal .ensures))
+      ∙ late-decides (view (a .state)) (lent begun) (a .thread) (a .word) (a .value) (here .before .early-refusal .result)
       (early-here (here .before)) (here .if1 .left)
 
 returns-2 : tie.Need-returns-2
@@ -159,16 +169,25 @@ returns-2 c =
     let late = c .before .before in
     let a = begun late .args in
     rw (c .refused2 .ensures)
-    (store-refused (a .t1) (lent (begun late)) (a .supply) (a .thread) (a .word) (a .value)
+    (store-refused (a .state) (lent (begun late)) (a .supply) (a .thread) (a .word) (a .value)
     (late .late-refusal .result) (late-here late) (c .before .if2 .taken))
 
-append-undos-requires : tie.Need-append-undos-requires
-append-undos-requires c κs = search needs
+append-oldest-requires : tie.Need-append-oldest-requires
+append-oldest-requires c κs = search needs
+
+-- the same log and the same rest
+appended-as : {c n : ℕ} {before : List ℕ} {rs : List Record} (after log : List ℕ) (rest left : ℕ) → after ≡ log → rest ≡ left
+    → Appended c before n rs log left → Appended c before n rs after rest
+appended-as after log rest left same kept a = rw (same, kept) a
+
+-- where no entry comes first, none is logged
+logged-none : (k : ℕ) (m : Machine) (c : ℕ) (log : List ℕ) (n : ℕ) → k ≡ 0 → Appended c log n (undoRecords k m) log c
+logged-none k m c log n e = rw e (appended-none c log n)
 
 -- no row refuses the store, and the entries that come first are logged
-module _ (c : tie.After-slice-known4) where
+module _ (c : tie.Joined3) where
   abbrev late : tie.Else2
-  late = c .before .before .before .before .before .before .before .before .before
+  late = c .before
 
   abbrev entry : tie.Start
   entry = begun (late .before)
@@ -176,20 +195,24 @@ module _ (c : tie.After-slice-known4) where
   abbrev count : tie.After-logs-first
   count = late .before .before
 
-  allowed-here : Allowed (entry .args .t1) (lent entry) (entry .args .supply) (entry .args .thread) (entry .args .word) (entry .args .value)
+  allowed-here : Allowed (entry .args .state) (lent entry) (entry .args .supply) (entry .args .thread) (entry .args .word) (entry .args .value)
   allowed-here =
-      allowed (entry .args .t1) (lent entry) (entry .args .supply) (entry .args .thread) (entry .args .word) (entry .args .value)
+      allowed (entry .args .state) (lent entry) (entry .args .supply) (entry .args .thread) (entry .args .word) (entry .args .value)
       (sym (late-here (late .before)) ∙ late .if2 .left)
 
-  logged : Appended (entry .args .supply) (lent entry .log) (entry .args .t1 .tail) (undoRecords (count .logs-first .result) (view (entry .args .t1)))
-      (c .before .before .append-undos .last .0) (c .before .before .append-undos .result)
+  logged : Appended (entry .args .supply) (lent entry .log) (entry .args .state .tail)
+      (undoRecords (count .logs-first .result) (view (entry .args .state))) (c .if3 .log) (c .if3 .left)
   logged =
-      let undos = entry .args .t1 .undos in
+      let undos = entry .args .state .undos in
       let few : undos .len ≤ 16 = omega (arith, undos-length undos, allowed-here .known .fits .clauses .undoSize) in
-      undos-appended (count .logs-first .result) undos few (c .before .before .append-undos .ensures)
+      ⊎-elim (λ w. appended-as _ _ _ _ (w .6) (w .7) (undos-appended (count .logs-first .result) undos few (w .3 .ensures)))
+      (λ w.
+      appended-as _ _ _ _ (w .1) (w .2)
+      (logged-none (count .logs-first .result) (view (entry .args .state)) (entry .args .supply) (lent entry .log) (entry .args .state .tail) (w .0 .left)))
+      (c .if3 .came)
 
-mul-if3 : tie.Need-mul-if3
-mul-if3 c =
+mul-if4-2 : tie.Need-mul-if4-2
+mul-if4-2 c =
     let few = count-few (count c) in
     omega arith
 
@@ -200,17 +223,17 @@ same-length : tie.Need-same-length
 same-length c = search needs
 
 same-length-2 : tie.Need-same-length-2
-same-length-2 c = search needs
+same-length-2 c = appended-length (logged (c .before .before .before .before .before))
 
 returns-3 : tie.Need-returns-3
 returns-3 c =
     let here = c .before .before .before .before .before in
     let a = entry here .args in
-    let made = here .before .before .append-undos in
+    let made = here .if3 in
     let cleared = c .before .before .cut in
-    store-cut (a .t1) (lent (entry here)) (a .supply) (a .thread) (a .word) (a .value) (allowed-here here)
-    (count here .logs-first .result) (count-here (count here)) (cleared .result) (made .last .0) (made .result) (logged here)
-    (cleared .last .0) (c .before .before .before .before .if3 .taken) (cleared .ensures .0) (cleared .ensures .1)
+    store-cut (a .state) (lent (entry here)) (a .supply) (a .thread) (a .word) (a .value) (allowed-here here)
+    (count here .logs-first .result) (count-here (count here)) (cleared .result) (made .log) (made .left) (logged here)
+    (cleared .last .0) (c .before .before .before .before .if4 .taken) (cleared .ensures .0) (cleared .ensures .1)
 
 mul-working : tie.Need-mul-working
 mul-working c = search needs
@@ -225,7 +248,7 @@ slice-write-working c =
 next-state-requires : tie.Need-next-state-requires
 next-state-requires c κs =
     let k = allowed-here (c .before) .known in
-    let s = entry (c .before) .args .t1 in
+    let s = entry (c .before) .args .state in
     let undos = undos-length (s .undos) in
     let redos = redos-length (s .redos) in
     let f = k .fits .clauses in
@@ -239,18 +262,18 @@ same-length-3 : tie.Need-same-length-3
 same-length-3 c = search needs
 
 same-length-4 : tie.Need-same-length-4
-same-length-4 c = search needs
+same-length-4 c = appended-length (logged (c .before .before))
 
 returns-4 : tie.Need-returns-4
 returns-4 c =
     let here = c .before .before in
     let a = entry here .args in
-    let made = here .before .before .append-undos in
-    store-done (a .t1) (lent (entry here)) (a .supply) (a .thread) (a .word) (a .value) (allowed-here here)
+    let made = here .if3 in
+    store-done (a .state) (lent (entry here)) (a .supply) (a .thread) (a .word) (a .value) (allowed-here here)
     (count here .logs-first .result) (count-here (count here))
-    (record { answer = 0; left = made .result; state = c .next-state .result })
-    (made .last .0) (made .result) (logged here)
-    (c .before .if3 .left) refl refl (c .next-state .ensures (lent (entry here)) refl)
+    (record { answer = 0; left = made .left; state = c .next-state .result })
+    (made .log) (made .left) (logged here)
+    (c .before .if4 .left) refl refl (c .next-state .ensures (lent (entry here)) refl)
 
 pub stored-spec : {M : Type 1} → statement M
 stored-spec =
@@ -259,18 +282,18 @@ stored-spec =
     early-refusal-requires
     refused-requires
     returns
-    cast-t22
-    cast-late-refusal
-    mul-late-refusal
-    slice-read-late-refusal
+    cast-t23
+    cast-t24
+    mul-if4
+    slice-read-if4
     element-copy-out-idle
     held-by-another-requires
     logs-first-requires
     late-refusal-requires
     refused-requires-2
     returns-2
-    append-undos-requires
-    mul-if3
+    append-oldest-requires
+    mul-if4-2
     cut-requires
     same-length
     same-length-2

@@ -1,12 +1,13 @@
 -- `written_back` meets its contract: refused, cut, or done.
-use mathlib.Core.Path.{_≡_, refl}
-use mathlib.Core.List.{[]}
+use Prim.Native.Nat.{ℕ}
+use mathlib.Core.Path.{_≡_, refl, _∙_, ap}
+use mathlib.Core.List.{List, []}
 use native.Mathlib.Omega.{arith}
 use Rattle.parts.proofs.FirstLines.{WholeLines}
 use Rattle.model.specs.Machine.{Memory}
 use Rattle.model.specs.Refusals.{numberOf}
 use Rattle.state.specs.View.{view, memory}
-use Rattle.steps.proofs.LineRows.{lineRows, line-number}
+use Rattle.steps.proofs.LineRows.{lineRows, lineNumber, line-number}
 use Rattle.steps.proofs.WritingBack.{write-refused, write-fit, write-cut, write-done}
 use borrow.Author.Needs.{needs}
 use Rattle.steps.proofs.writing_back.written_back.Statement.{statement}
@@ -14,7 +15,7 @@ use Rattle.steps.proofs.writing_back.written_back.Tie as tie
 
 -- where the step began, and where it was not refused
 abbrev start : tie.After-line-refusal → tie.Start
-start c = c .before .before .before .before .before .before
+start c = c .before .before .before .before
 
 abbrev passed : tie.After-store-line → tie.Else1
 passed c = c .before .before .before
@@ -22,15 +23,16 @@ passed c = c .before .before .before
 abbrev lent : tie.Start → Memory
 lent c = memory (c .args .home .now) (c .args .working .now) (c .args .log .now)
 
-whole-lines : (c : tie.Start) → WholeLines (c .args .t1 .lines)
+whole-lines : (c : tie.Start) → WholeLines (c .args .state .lines)
 whole-lines c = search needs
 
 -- the number that was found is that of the step's rows
-number : (c : tie.After-line-refusal) → c .line-refusal .result ≡ numberOf (lineRows (view (start c .args .t1)) (lent (start c)) (start c .args .line) [])
+number : (c : tie.After-line-refusal) → c .line-refusal .result ≡ numberOf (lineRows (view (start c .args .state)) (lent (start c)) (start c .args .line) [])
 unfolding numberOf
 number c =
     let s = start c in
-    line-number (s .args .t1) (lent s) (s .args .line) 0 (c .line-refusal .result) [] (s .pre) (λ _. refl) (c .line-refusal .ensures)
+    line-number (s .args .state) (lent s) (s .args .line) 0 (c .line-refusal .result) [] (s .pre .1) (λ _. refl)
+    (c .line-refusal .ensures ∙ ap (λ (ss : List ℕ). lineNumber (s .args .state .words) ss (s .args .line) 0) (s .pre .0))
 
 line-refusal-requires : tie.Need-line-refusal-requires
 line-refusal-requires c κs = search needs
@@ -43,7 +45,7 @@ returns c =
     let refused = c .before .before in
     let a = start refused .args in
     rw (c .refused .ensures)
-    (write-refused (a .line) (a .supply) (a .t1) (lent (start refused)) (refused .line-refusal .result) (number refused) (c .before .if1 .taken))
+    (write-refused (a .line) (a .supply) (a .state) (lent (start refused)) (refused .line-refusal .result) (number refused) (c .before .if1 .taken))
 
 store-line-requires : tie.Need-store-line-requires
 store-line-requires c κs = search needs
@@ -63,16 +65,16 @@ returns-2 c =
     let stored = ended .before .before .before .before .before in
     let began = passed stored in
     let a = start (began .before) .args in
-    write-cut (a .line) (a .supply) (a .t1) (lent (start (began .before))) (began .before .line-refusal .result) (number (began .before)) (began .if1 .left)
+    write-cut (a .line) (a .supply) (a .state) (lent (start (began .before))) (began .before .line-refusal .result) (number (began .before)) (began .if1 .left)
     (stored .store-line .last .0) (stored .store-line .ensures .1)
     (ended .cut .result) (ended .cut .last .0) (ended .before .before .if2 .taken) (ended .cut .ensures .0) (ended .cut .ensures .1)
 
 put-flag-requires : tie.Need-put-flag-requires
 put-flag-requires c κs =
-    let began = passed (c .before .before .before .before) in
+    let began = passed (c .before .before .before .before .before) in
     let s = start (began .before) in
     let number = number (began .before) in
-    let f = write-fit (s .args .line) (s .args .supply) (s .args .t1) (lent s) (began .before .line-refusal .result) number (began .if1 .left) in
+    let f = write-fit (s .args .line) (s .args .supply) (s .args .state) (lent s) (began .before .line-refusal .result) number (began .if1 .left) in
     omega arith
 
 same-length-3 : tie.Need-same-length-3
@@ -83,12 +85,12 @@ same-length-4 c = search needs
 
 returns-3 : tie.Need-returns-3
 returns-3 c =
-    let enough = c .before .before in
+    let enough = c .before .before .before in
     let stored = enough .before .before .before in
     let began = passed stored in
     let s = start (began .before) in
     let a = s .args in
-    write-done (a .line) (a .supply) (a .t1) (lent s) (began .before .line-refusal .result) (number (began .before)) (began .if1 .left)
+    write-done (a .line) (a .supply) (a .state) (lent s) (began .before .line-refusal .result) (number (began .before)) (began .if1 .left)
     (stored .store-line .last .0) (stored .store-line .ensures .1) (stored .store-line .result)
     (c .put-flag .last .0) (enough .if2 .left) (stored .store-line .ensures .0) (whole-lines s) (c .put-flag .ensures)
 

@@ -112,14 +112,14 @@ fn bench(folder: &Path) {
 }
 
 /// Runs one list of a case over and over, to be looked at by a profiler.
-fn replay(side: &str, list: &str, name: &str) {
+fn replay(side: &str, list: &str, name: &str, head: &str) {
     let side = match side {
         "twin" => Side::Twin,
         _ => Side::Rattle,
     };
     let tables = tables();
-    let case = tables.iter().find_map(|t| t.last(name));
-    let case = case.expect("the name of a row");
+    let case = tables.iter().find_map(|t| t.case(name, head));
+    let case = case.expect("the name of a row and the head of a column");
     case.replay(side, list == "whole", 20);
 }
 
@@ -129,10 +129,10 @@ fn main() {
     match args[..] {
         ["bench", folder] => bench(Path::new(folder)),
         ["pass"] => pass(),
-        ["replay", side, list, name] => replay(side, list, name),
+        ["replay", side, list, name, head] => replay(side, list, name, head),
         _ => {
             eprintln!("usage: compare bench FOLDER-OF-THE-PEERS | pass");
-            eprintln!("       compare replay twin|rattle before|whole NAME-OF-A-ROW");
+            eprintln!("       compare replay twin|rattle before|whole ROW COLUMN");
         }
     }
 }

@@ -41,8 +41,17 @@ impl Table {
 
     /// The case of this name in the last column.
     pub fn last(&self, name: &str) -> Option<&Case> {
-        let row = self.rows.iter().find(|row| row[0].name == name)?;
-        row.last()
+        self.row(name)?.last()
+    }
+
+    /// The case of this name in the column with this head.
+    pub fn case(&self, name: &str, head: &str) -> Option<&Case> {
+        let place = self.columns.iter().position(|c| c == head)?;
+        self.row(name)?.get(place)
+    }
+
+    fn row(&self, name: &str) -> Option<&Vec<Case>> {
+        self.rows.iter().find(|row| row[0].name == name)
     }
 
     pub fn print(&self) {

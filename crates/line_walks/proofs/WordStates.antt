@@ -29,7 +29,7 @@ abbrev pub replaced : List ℕ → ℕ → ℕ → List ℕ
 replaced ss w s = set ss (w / 8) (withState (getD ss (w / 8) 0) (w % 8) s)
 
 -- which is to put the word's line anew
-state-put : (ls : Lines) (i s : ℕ) → putLine ls i (statesAs s (lineAt ls i)) ≡ withStates (set (ls .states) i s) ls
+pub state-put : (ls : Lines) (i s : ℕ) → putLine ls i (statesAs s (lineAt ls i)) ≡ withStates (set (ls .states) i s) ls
 state-put ls i s = simp set-getD
 
 -- one state replaced

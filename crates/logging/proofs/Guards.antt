@@ -1,6 +1,6 @@
 -- Where nothing is appended: sizes that no machine has, and numbers that no record has. And what is known elsewhere.
 use Prim.Native.Nat.{ℕ, _/_, _%_, _≤_, _<_, min}
-use mathlib.Core.Path.{_≡_}
+use mathlib.Core.Path.{_≡_, sym, ap, _∙_}
 use mathlib.Core.Bool.{Bool, true, false, _&&_, _||_, not}
 use mathlib.Core.List.{List, [], _∷_, _++_, map}
 use native.Mathlib.Decide.{decLt}
@@ -8,7 +8,6 @@ use native.Mathlib.Omega.{arith}
 use borrow.Author.Tests.{ltb-true, ltb-false, leb-true, leb-false, eqb-true, not-true, not-false, le-leb, lt-leb, eq-eqb}
 use lib.Dec.{eqb, ltb, leb}
 use lib.ListN.{length, take}
-use lib.Seq.{take-all}
 use Rattle.log.specs.declared.Record.{Record}
 use Rattle.log.specs.declared.Record.the-variants.{Commit}
 use Rattle.log.specs.Region.{numbers, recordsStores}
@@ -22,6 +21,7 @@ use Rattle.parts.specs.Listed.{listed}
 use Rattle.parts.specs.Waiting.{undosWaiting, redosWaiting}
 use Rattle.parts.proofs.Waiting.{undoAt, redoAt}
 use Rattle.parts.proofs.Listed.{length-listed}
+use Rattle.parts.proofs.Oldest.{take-least}
 use Rattle.model.specs.Steps.{undoRedoRecord, redoRecord}
 use Rattle.model.proofs.Lists.{both-left, both-right}
 use Rattle.model.proofs.Records.{both-fail}
@@ -61,11 +61,7 @@ module _ (f : Entry → Record) (places count len : ℕ) (at : ℕ → Entry) wh
   -- there are no more oldest entries than there are entries
   pub oldest-all : (i : ℕ) → i ≡ min count len → map f (take i (listed len at)) ≡ map f (take count (listed len at))
   oldest-all i e =
-      let l : length (listed len at) ≡ len = length-listed len at in
-      elim (decLt count len) [
-        | yes p ↦ let same : i ≡ count = omega arith in rw same
-        | no q ↦ rw (take-all i (listed len at) (omega arith), take-all count (listed len at) (omega arith))
-      ]
+      ap (map f) (take-least i count (listed len at) (e ∙ ap (min count) (sym (length-listed len at))))
 
 -- the same of a buffer by value, as `append_undos` and `append_redos` append its entries
 pub undos-appended : {c n rest : ℕ} {before after : List ℕ} (count : ℕ) (b : UndoBuffer) → b .len ≤ 16

@@ -1,6 +1,6 @@
 -- The lines as a list: a line that is put stands in its place, and the others remain.
 use Prim.Native.Nat.{ℕ, _≤_, _<_}
-use mathlib.Core.Path.{_≡_, refl, sym, _∙_}
+use mathlib.Core.Path.{_≡_, sym, _∙_}
 use mathlib.Core.Bool.{false}
 use native.Mathlib.Omega.{arith}
 use lib.ListN.{length, set, replicate, length-set, getD-replicate}
@@ -47,6 +47,3 @@ first-free n h =
 -- a line that is put, and free lines, take the 64 places and no more
 pub whole-put : (ls : Lines) (i : ℕ) (l : Line) → WholeLines ls → WholeLines (putLine ls i l)
 whole-put ls i l w = record { holders = simp length-set (w .holders); dirty = simp length-set (w .dirty); states = simp length-set (w .states) }
-
-pub whole-free : WholeLines freeLines
-whole-free = record { holders = refl; dirty = refl; states = refl }

@@ -1,6 +1,8 @@
 // The parts of the machine's state: the two log buffers, and the lines with the states of their words.
 ghost use mathlib.Core.Path.{_≡_};
-ghost use Prim.Native.Nat.{min};
+ghost use mathlib.Core.Bool.{cond};
+ghost use lib.Dec.{leb};
+ghost use Prim.Native.Nat.{_≤_, min};
 
 mod line_states;
 mod redos;
@@ -46,6 +48,14 @@ pub struct Lines {
     pub holders: [u8; 64],
     pub dirty: [bool; 64],
     pub states: [u16; 64],
+}
+
+// The length of a buffer with so many places, or 0 if it is larger, which no buffer's is.
+fn within(len: usize, places: usize) -> usize
+    ensures { λ r. ⌜ r ≡ cond (leb len places) len 0 ⌝ }
+    ensures { λ r. ⌜ (r ≤ places) × (r ≤ len) ⌝ }
+{
+    if len <= places { len } else { 0 }
 }
 
 fn least(a: usize, b: usize) -> usize

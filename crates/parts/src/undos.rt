@@ -1,6 +1,7 @@
 // The undo+redo buffer: first in, first out.
 use crate::UndoBuffer;
 use crate::least;
+use crate::within;
 ghost use mathlib.Core.Path.{_≡_};
 ghost use mathlib.Core.List.{[]};
 ghost use lib.ListN.{drop};
@@ -19,15 +20,14 @@ impl UndoBuffer {
         }
     }
 
-    // The k oldest entries taken, or as many as there are: the others move down.
+    // The k oldest entries taken, or as many as there are: the others move down. It has one way out, so that the buffer is copied less often.
     pub fn drop_oldest(mut self, k: usize) -> UndoBuffer
         ensures { λ (r : UndoBuffer). ⌜ undosWaiting r ≡ changedWithin 16 (self .len) (undosWaiting self) (drop k (undosWaiting self)) ⌝ }
     {
-        if 16 < self.len {
-            return self;
-        }
-        let gone = least(k, self.len);
-        let end = self.len - gone;
+        let len = self.len;
+        let there = within(len, 16);
+        let gone = least(k, there);
+        let end = there - gone;
         let mut i = 0;
         while i < end {
             let from = i + gone;
@@ -37,7 +37,7 @@ impl UndoBuffer {
             self.redos[i] = self.redos[from];
             i += 1;
         }
-        self.len = end;
+        self.len = len - gone;
         self
     }
 }

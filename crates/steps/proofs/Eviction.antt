@@ -6,7 +6,6 @@ use mathlib.Core.List.{List, [], _++_, map, map-map, append-nil}
 use native.Mathlib.Omega.{arith}
 use lib.Dec.{eqb, ltb}
 use lib.ListN.{length, getD, set, drop, replicate, length-map, length-drop}
-use lib.Seq.{set-getD}
 use Rattle.log.specs.declared.Record.{Record}
 use Rattle.log.specs.Region.{numbers}
 use Rattle.log.specs.Holding.{Every}
@@ -15,7 +14,7 @@ use Rattle.parts.specs.declared.RedoBuffer.{RedoBuffer}
 use Rattle.parts.specs.declared.Line.{Line}
 use Rattle.parts.specs.declared.Lines.{Lines}
 use Rattle.parts.specs.Listed.{listed}
-use Rattle.parts.specs.Lines.{lineAt, firstLines, putLine}
+use Rattle.parts.specs.Lines.{lineAt, firstLines}
 use Rattle.parts.specs.States.{stateAt, ULog}
 use Rattle.parts.specs.Waiting.{redosWaiting}
 use Rattle.parts.proofs.Waiting.{redoAt}
@@ -32,7 +31,7 @@ use Rattle.model.proofs.LinesInUse.{line-in-use, first-changed}
 use Rattle.model.proofs.Outcomes.{outcome-refused}
 use Rattle.line_walks.specs.Walks.{isULog, ulogEntry, ulogEntries, addedAll}
 use Rattle.line_walks.proofs.ULogEntries.{added-all, entries-there}
-use Rattle.line_walks.proofs.WordStates.{withStates}
+use Rattle.line_walks.proofs.WordStates.{withStates, state-put}
 use Rattle.logging.proofs.LineWords.{keep-below}
 use Rattle.logging.proofs.Appending.{Appended}
 use Rattle.state.specs.declared.Fields.{Fields}
@@ -53,10 +52,7 @@ lackingIn len states i = len + length (keep (λ j. eqb (stateAt (getD states (i 
 -- the states of line i replaced in place
 states-lines : (n : ℕ) (ls : Lines) (i k : ℕ) (ss : List ℕ) → WholeLines ls → n ≤ 64 → ss ≡ set (ls .states) i k
     → firstLines n (withStates ss ls) ≡ changed (statesAs k) i (firstLines n ls)
-states-lines n ls i k ss whole h e = rw e (ap (firstLines n) (sym states-put) ∙ first-changed (statesAs k) n ls i whole h)
-  where
-    states-put : putLine ls i (statesAs k (lineAt ls i)) ≡ withStates (set (ls .states) i k) ls
-    states-put = simp set-getD
+states-lines n ls i k ss whole h e = rw e (ap (firstLines n) (sym (state-put ls i k)) ∙ first-changed (statesAs k) n ls i whole h)
 
 -- the state that the code makes: other redo entries, other states of the lines, and the tail past `count` records
 abbrev pub setDown : Fields → ℕ → RedoBuffer → List ℕ → Fields

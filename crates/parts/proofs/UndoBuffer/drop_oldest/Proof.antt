@@ -1,28 +1,33 @@
 -- `UndoBuffer::drop_oldest` meets its contract. Before `i` the entries are as they shall be, from `i` on as they were.
-use Prim.Native.Nat.{_+_, _-_, _≤_}
-use mathlib.Core.Path.{_∙_}
+use Prim.Native.Nat.{ℕ, _+_, _-_, _≤_, _<_, min}
+use mathlib.Core.Path.{_≡_, ap, _∙_}
+use mathlib.Core.Bool.{Bool, cond}
+use native.Mathlib.Decide.{decLt}
 use native.Mathlib.Nat.{zero-add}
 use native.Mathlib.Omega.{arith}
 use borrow.Author.Needs.{needs}
+use borrow.Author.Tests.{le-leb, lt-leb}
+use lib.Dec.{leb}
 use lib.ListN.{drop}
-use Rattle.parts.specs.Waiting.{undosWaiting}
+use Rattle.parts.specs.declared.Entry.{Entry}
+use Rattle.parts.specs.declared.UndoBuffer.{UndoBuffer}
+use Rattle.parts.specs.Listed.{listed}
+use Rattle.parts.specs.Waiting.{undosWaiting, changedWithin}
+use Rattle.parts.proofs.Listed.{listed-ext}
 use Rattle.parts.proofs.Waiting.{WholeBuffer, undoAt, putEntry, put-same, put-other, whole-put, changed-within, changed-over}
 use Rattle.parts.proofs.Closed.{Moved, moved-none, moved-more, moved-all, taken-at-most}
 use Rattle.parts.proofs.UndoBuffer.drop_oldest.Statement.{statement}
 use Rattle.parts.proofs.UndoBuffer.drop_oldest.Tie as tie
 
 abbrev Inv-loop : tie.InvT-loop
-Inv-loop k self₀ gone end i₀ self i =
+Inv-loop k self₀ len there gone end i₀ self i =
     (i ≤ end) × WholeBuffer 16 (self .threads) (self .words) (self .undos) (self .redos) × Moved (undoAt self₀) 0 gone (undoAt self) i
 
 abbrev μ-loop : tie.MeasureT-loop
-μ-loop k self₀ gone end i₀ self i = end - i
+μ-loop k self₀ len there gone end i₀ self i = end - i
 
-returns : tie.Need-returns Inv-loop μ-loop
-returns c =
-    let a = c .before .args in
-    let b = a .t1 in
-    changed-over 16 (b .len) (undosWaiting b) (drop (a .k) (undosWaiting b)) (c .if1 .taken)
+within-requires : tie.Need-within-requires Inv-loop μ-loop
+within-requires c κs = search needs
 
 least-requires : tie.Need-least-requires Inv-loop μ-loop
 least-requires c κs = search needs
@@ -101,15 +106,43 @@ loop-again c =
           (λ m ne. put-other (b .threads) (b .words) (b .undos) (b .redos) (l .i) m e ne),
     )
 
-returns-2 : tie.Need-returns-2 Inv-loop μ-loop
-returns-2 c =
+sub-self : tie.Need-sub-self Inv-loop μ-loop
+sub-self c = omega arith
+
+-- of a length that a buffer has, the others moved down
+module _ (b : UndoBuffer) (k there gone i : ℕ) (f : ℕ → Entry) (is : there ≡ cond (leb (b .len) 16) (b .len) 0) (least : gone ≡ min k there)
+    (all : there - gone ≤ i) (moved : Moved (undoAt b) 0 gone f i) where
+  dropped : b .len ≤ 16 → listed (b .len - gone) f ≡ changedWithin 16 (b .len) (undosWaiting b) (drop k (undosWaiting b))
+  dropped h =
+      let size : there ≡ b .len = is ∙ ap (λ (t : Bool). cond t (b .len) 0) (le-leb (b .len) 16 h) in
+      moved-all (undoAt b) 0 gone (b .len) f i (omega arith) (omega arith) moved
+      ∙ taken-at-most (b .len) (undoAt b) 0 k gone (omega arith) (omega arith)
+      ∙ rw zero-add (changed-within 16 (b .len) (undosWaiting b) (drop k (undosWaiting b)) h)
+
+  -- of any other, none
+  kept : 16 < b .len → i ≡ 0 → listed (b .len - gone) f ≡ changedWithin 16 (b .len) (undosWaiting b) (drop k (undosWaiting b))
+  kept h none =
+      let size : there ≡ 0 = is ∙ ap (λ (t : Bool). cond t (b .len) 0) (lt-leb (b .len) 16 h) in
+      let same : b .len - gone ≡ b .len = omega arith in
+      ap (λ (n : ℕ). listed n f) same
+      ∙ listed-ext (b .len) f (undoAt b) (λ m l. moved .rest m (omega arith))
+      ∙ changed-over 16 (b .len) (undosWaiting b) (drop k (undosWaiting b)) h
+
+returns : tie.Need-returns Inv-loop μ-loop
+returns c =
     let a = c .before .before .before .before .args in
     let l = c .before .loop in
-    let gone = c .before .before .least .result in
+    let least = c .before .before .least in
+    let there = c .before .before .before .within in
     let b = a .t1 in
-    moved-all (undoAt b) 0 gone (b .len) (undoAt (l .self)) (l .i) (omega arith) (c .loop-test .left) (l .inv .2)
-    ∙ taken-at-most (b .len) (undoAt b) 0 (a .k) gone (omega arith) (omega (arith, c .before .before .least .ensures))
-    ∙ rw zero-add (changed-within 16 (b .len) (undosWaiting b) (drop (a .k) (undosWaiting b)) (omega arith))
+    elim (decLt 16 (b .len)) [
+      | yes p ↦
+          kept b (a .k) (there .result) (least .result) (l .i) (undoAt (l .self)) (there .ensures .0) (least .ensures) (c .loop-test .left) (l .inv .2) p
+          (omega (arith, there .ensures .0 ∙ ap (λ (t : Bool). cond t (b .len) 0) (lt-leb (b .len) 16 p)))
+      | no q ↦
+          dropped b (a .k) (there .result) (least .result) (l .i) (undoAt (l .self)) (there .ensures .0) (least .ensures) (c .loop-test .left) (l .inv .2)
+          (omega arith)
+    ]
 
 pub drop-oldest-spec : {M : Type 1} → statement M
 drop-oldest-spec =
@@ -117,7 +150,7 @@ drop-oldest-spec =
     (tie.spec
     Inv-loop
     μ-loop
-    returns
+    within-requires
     least-requires
     sub-end
     loop-holds
@@ -139,4 +172,5 @@ drop-oldest-spec =
     add-i
     loop-less
     loop-again
-    returns-2)
+    sub-self
+    returns)

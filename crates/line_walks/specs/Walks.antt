@@ -1,18 +1,17 @@
 -- What the walks over the lines, and over the words of a line, hand back on every input.
-use Prim.Native.Nat.{ℕ, _+_, _*_, _/_, _%_}
+use Prim.Native.Nat.{ℕ, zero, suc, _+_, _*_, _/_, _%_}
 use mathlib.Core.Bool.{Bool, cond, _&&_}
 use mathlib.Core.List.{List, [], _∷_, map}
-use lib.Dec.{eqb, leb, ltb}
+use lib.Dec.{eqb, leb}
 use lib.ListN.{length, getD, set}
 use Rattle.log.specs.Stores.{Store}
 use Rattle.parts.specs.declared.Entry.{Entry}
 use Rattle.parts.specs.declared.Line.{Line}
-use Rattle.parts.specs.declared.Lines.{Lines}
-use Rattle.parts.specs.Lines.{lineAt}
+use Rattle.parts.specs.Lines.{nobody}
 use Rattle.parts.specs.States.{stateAt, withState, URLog, ULog}
 use Rattle.parts.specs.Waiting.{added}
 use Rattle.model.specs.Lists.{keep, upTo}
-use Rattle.model.specs.Steps.{lineWrites, released}
+use Rattle.model.specs.Steps.{lineWrites}
 
 -- the states of all lines with these words URLog, one after the other
 unfoldable pub allMarked : List ℕ → List ℕ → List ℕ
@@ -44,6 +43,14 @@ addedAll (x ∷ xs) es = addedAll xs (added 32 x es)
 unfoldable pub lineStores : List ℕ → ℕ → List Store
 lineStores working line = cond (leb (8 * line + 8) (length working)) (lineWrites working line) []
 
--- line i after the first n lines, or all of them, were released by thread t
-abbrev pub releasedAt : ℕ → ℕ → Lines → ℕ → Line
-releasedAt n t ls i = cond (ltb i n) (released t (lineAt ls i)) (lineAt ls i)
+-- the first n numbers of a list, one after the other replaced by what f makes of them at their place
+unfoldable pub replacedTo : (ℕ → ℕ → ℕ) → ℕ → List ℕ → List ℕ
+replacedTo f zero xs = xs
+replacedTo f (suc i) xs = set (replacedTo f i xs) i (f i (getD (replacedTo f i xs) i 0))
+
+-- "Lines held by t become unheld and all Clean": the holder of a line, and its states, where hs are the holders
+abbrev pub freedHolder : ℕ → ℕ → ℕ → ℕ
+freedHolder t i h = cond (eqb h t) nobody h
+
+abbrev pub freedStates : ℕ → List ℕ → ℕ → ℕ → ℕ
+freedStates t hs i s = cond (eqb (getD hs i 0) t) 0 s

@@ -10,7 +10,8 @@ mod writing_back;
 pub use evicting::add_ulog;
 pub use marking::mark;
 pub use marking::mark_logged;
-pub use releasing::release;
+pub use releasing::release_holders;
+pub use releasing::release_states;
 pub use writing_back::has_dirty;
 pub use writing_back::store_line;
 

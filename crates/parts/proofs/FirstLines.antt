@@ -3,7 +3,7 @@ use Prim.Native.Nat.{ℕ, _≤_, _<_}
 use mathlib.Core.Path.{_≡_, sym, _∙_}
 use mathlib.Core.Bool.{false}
 use native.Mathlib.Omega.{arith}
-use lib.ListN.{length, set, replicate, length-set, getD-replicate}
+use lib.ListN.{length, set, replicate, getD-replicate}
 use lib.Seq.{getD-set-same, getD-set-other}
 use Rattle.parts.specs.declared.Line.{Line}
 use Rattle.parts.specs.declared.Lines.{Lines}
@@ -21,13 +21,13 @@ line-eq : (a b : Line) → a .holder ≡ b .holder → a .dirty ≡ b .dirty →
 line-eq a b h d s = λ i. record { holder = h i; dirty = d i; states = s i }
 
 -- the line that was put is there
-pub line-same : (ls : Lines) (i : ℕ) (l : Line) → WholeLines ls → i < 64 → lineAt (putLine ls i l) i ≡ l
+line-same : (ls : Lines) (i : ℕ) (l : Line) → WholeLines ls → i < 64 → lineAt (putLine ls i l) i ≡ l
 line-same ls i l w h =
     line-eq (lineAt (putLine ls i l) i) l (getD-set-same (ls .holders) i (l .holder) 0 (omega arith))
     (getD-set-same (ls .dirty) i (l .dirty) false (omega arith)) (getD-set-same (ls .states) i (l .states) 0 (omega arith))
 
 -- the other lines remain
-pub line-other : (ls : Lines) (i k : ℕ) (l : Line) → (k ≡ i → ⊥) → lineAt (putLine ls i l) k ≡ lineAt ls k
+line-other : (ls : Lines) (i k : ℕ) (l : Line) → (k ≡ i → ⊥) → lineAt (putLine ls i l) k ≡ lineAt ls k
 line-other ls i k l ne = simp getD-set-other
 
 -- a line that is put replaces one of the first n, or none of them
@@ -43,7 +43,3 @@ first-free n h =
     line-eq (lineAt freeLines i) freeLine (getD-replicate 64 i nobody 0 (omega arith)) (getD-replicate 64 i false false (omega arith))
     (getD-replicate 64 i 0 0 (omega arith)))
     ∙ sym (replicate-listed n freeLine)
-
--- a line that is put, and free lines, take the 64 places and no more
-pub whole-put : (ls : Lines) (i : ℕ) (l : Line) → WholeLines ls → WholeLines (putLine ls i l)
-whole-put ls i l w = record { holders = simp length-set (w .holders); dirty = simp length-set (w .dirty); states = simp length-set (w .states) }

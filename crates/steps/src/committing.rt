@@ -17,7 +17,8 @@ use crate::refusals::no_room;
 use crate::refusals::refuse;
 use crate::refusals::refused;
 use line_walks::mark_logged;
-use line_walks::release;
+use line_walks::release_holders;
+use line_walks::release_states;
 use logging::append_commit;
 use logging::count_newest;
 use state::DONE;
@@ -104,9 +105,10 @@ fn carry_out(
     }
     let words = state.undos.words;
     mark_logged(&mut state.lines.states, &words, undos);
-    let lines = state.lines;
-    let free = release(lines, (state.words / 8) as usize, thread);
-    state.lines = free;
+    let holders = state.lines.holders;
+    let lines = (state.words / 8) as usize;
+    release_states(&mut state.lines.states, &holders, lines, thread as u8);
+    release_holders(&mut state.lines.holders, lines, thread as u8);
     state.undos.len = 0;
     state.redos.len = 0;
     state.opened[thread as usize] = false;

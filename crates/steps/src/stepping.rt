@@ -1,6 +1,5 @@
 // A step given as a value: what comes before its own rows, once for all steps, and then the step itself.
 ghost use mathlib.Core.Path.{_≡_};
-ghost use Rattle.model.specs.Machine.{Machine};
 ghost use Rattle.model.specs.Consistent.{consistent};
 ghost use Rattle.model.specs.Refusals.{numberOf};
 ghost use Rattle.model.specs.Step.{stepped};
@@ -27,24 +26,23 @@ use state::Made;
 
 // The number of the rows that come before a step's own, or 0; `sound` says whether the state is consistent. A recovery has none, and a
 // begin is lent no buffers.
-fn unfit(
-    step: Step,
-    lost: bool,
-    words: u16,
-    slots: u16,
-    head: u64,
-    sound: bool,
-    home: &[u64],
-    working: &[u64],
-    log: &[u64],
-) -> u64
-    ensures { λ r. ⌜ ((m : Machine) → m .lost ≡ lost → m .words ≡ words → m .slots ≡ slots → m .head ≡ head → sound ≡ consistent m
-        → r ≡ numberOf (early (stepOf step) m (memory (now (home .entry)) (now (working .entry)) (now (log .entry))))) ⌝ }
+fn unfit(state: Fields, step: Step, sound: bool, home: &[u64], working: &[u64], log: &[u64]) -> u64
+    requires { ⌜ sound ≡ consistent (view state) ⌝ }
+    ensures { λ r. ⌜ r ≡ numberOf (early (stepOf step) (view state) (memory (now (home .entry)) (now (working .entry)) (now (log .entry)))) ⌝ }
 {
     match step {
-        Step::Begin { thread: _ } => refuse(lost, LOST, refuse(!sound, INCONSISTENT, 0)),
+        Step::Begin { thread: _ } => refuse(state.lost, LOST, refuse(!sound, INCONSISTENT, 0)),
         Step::Recover => 0,
-        _ => common(lost, words, slots, head, sound, home, working, log),
+        _ => common(
+            state.lost,
+            state.words,
+            state.slots,
+            state.head,
+            sound,
+            home,
+            working,
+            log,
+        ),
     }
 }
 
@@ -138,17 +136,7 @@ pub fn make(
         &redo_threads,
         &redo_words,
     );
-    let number = unfit(
-        step,
-        state.lost,
-        state.words,
-        state.slots,
-        state.head,
-        sound,
-        home,
-        working,
-        log,
-    );
+    let number = unfit(state, step, sound, home, working, log);
     if number != 0 {
         return refused(number, supply, state);
     }

@@ -1,5 +1,5 @@
 -- `carry_out` meets its contract: cut, or done.
-use Prim.Native.Nat.{ℕ, _/_}
+use Prim.Native.Nat.{ℕ, _/_, min}
 use mathlib.Core.Path.{_≡_, refl, sym, _∙_, ap}
 use mathlib.Core.List.{List, map}
 use native.Mathlib.Omega.{arith}
@@ -7,6 +7,8 @@ use borrow.Author.Needs.{needs}
 use lib.ListN.{length, take}
 use lib.Seq.{take-all}
 use Rattle.parts.specs.declared.Line.{Line}
+use Rattle.parts.specs.declared.Lines.{Lines}
+use Rattle.parts.specs.declared.UndoBuffer.{UndoBuffer}
 use Rattle.parts.specs.Lines.{firstLines}
 use Rattle.parts.specs.Waiting.{undosWaiting}
 use Rattle.parts.proofs.FirstLines.{WholeLines}
@@ -14,8 +16,9 @@ use Rattle.parts.proofs.Waiting.{undoAt}
 use Rattle.parts.proofs.Listed.{length-listed}
 use Rattle.model.specs.Machine.{allLogged}
 use Rattle.model.specs.Steps.{released}
+use Rattle.line_walks.specs.Walks.{allMarked}
 use Rattle.line_walks.proofs.ReleasedLines.{released-all}
-use Rattle.line_walks.proofs.WordStates.{withStates, logged-lines}
+use Rattle.line_walks.proofs.WordStates.{withStates, length-marked, logged-lines}
 use Rattle.state.specs.View.{view, memory}
 use Rattle.steps.specs.Committing.{Allowed}
 use Rattle.steps.proofs.Commits.{Ready, ready, freed, commit-next, commit-done, commit-cut}
@@ -65,6 +68,12 @@ returns c home allowed =
     (a .count) (allowed .records) (cleared .result) (cleared .last .0) (made .last .0) (made .result)
     (c .before .before .before .before .if1 .taken) (made .ensures (a .t1 .lines .dirty)) (cleared .ensures .0) (cleared .ensures .1)
 
+-- marked lines have as many places
+whole-marked : (b : UndoBuffer) (ls : Lines) (ss : List ℕ) → WholeLines ls → ss ≡ allMarked (take (b .len) (b .words)) (ls .states)
+    → WholeLines (withStates ss ls)
+whole-marked b ls ss w e =
+    record { holders = w .holders; dirty = w .dirty; states = ap length e ∙ length-marked (take (b .len) (b .words)) (ls .states) ∙ w .states }
+
 -- the arrays of the state have their places
 places : (c : tie.Start) → length (c .args .t1 .undos .words) ≡ 16
 places c = search needs
@@ -75,20 +84,33 @@ whole c = search needs
 mark-logged-requires : tie.Need-mark-logged-requires
 mark-logged-requires c κs = search needs
 
-cast-release : tie.Need-cast-release
-cast-release c = search needs
+cast-lines : tie.Need-cast-lines
+cast-lines c = search needs
 
-release-requires : tie.Need-release-requires
-release-requires c κs = search needs
+cast-release-states : tie.Need-cast-release-states
+cast-release-states c =
+    let p = start (c .before .before .before .before .before .before .before .before .before .before) .pre in
+    omega arith
+
+release-states-requires : tie.Need-release-states-requires
+release-states-requires c κs = search needs
+
+cast-release-holders : tie.Need-cast-release-holders
+cast-release-holders c =
+    let p = start (c .before .before .before .before .before .before .before .before .before .before .before .before) .pre in
+    omega arith
+
+release-holders-requires : tie.Need-release-holders-requires
+release-holders-requires c κs = search needs
 
 element-write-state : tie.Need-element-write-state
 element-write-state c =
-    let p = start (c .before .before .before .before .before .before .before .before .before .before .before) .pre in
+    let p = start (c .before .before .before .before .before .before .before .before .before .before .before .before .before .before .before) .pre in
     omega arith
 
 add-state : tie.Need-add-state
 add-state c =
-    let p = start (c .before .before .before .before .before .before .before .before .before .before .before) .pre in
+    let p = start (c .before .before .before .before .before .before .before .before .before .before .before .before .before .before .before) .pre in
     search needs
 
 same-length-3 : tie.Need-same-length-3
@@ -99,8 +121,9 @@ same-length-4 c = search needs
 
 returns-2 : tie.Need-returns-2
 returns-2 c home allowed =
-    let free = c .before .before .release in
-    let after = c .before .before .before .before in
+    let holders = c .before .before .release-holders in
+    let states = c .before .before .before .before .release-states in
+    let after = c .before .before .before .before .before .before .before .before in
     let enough = after .before .before .before .before in
     let logged = enough .before .before .before in
     let begun = start logged in
@@ -112,14 +135,20 @@ returns-2 c home allowed =
     let marked = withStates (after .mark-logged .last .0) (s .lines) in
     let size : length (undosWaiting (s .undos)) ≡ s .undos .len = length-listed (s .undos .len) (undoAt (s .undos)) in
     let all : take (s .undos .len) (undosWaiting (s .undos)) ≡ undosWaiting (s .undos) = take-all (s .undos .len) (undosWaiting (s .undos)) (omega arith) in
+    let marks = after .mark-logged .ensures (whole begun .states) (places begun) in
     let lines : firstLines n marked ≡ allLogged (undosWaiting (s .undos)) (firstLines n (s .lines)) =
-    rw (after .mark-logged .ensures (whole begun .states) (places begun), ← all)
+    rw (marks, ← all)
     (logged-lines (s .undos) (s .lines) (places begun) (omega arith) (whole begun) (s .undos .len) n (omega arith) (omega arith)) in
+    let few : min n 64 ≡ n = omega arith in
+    let wide = whole-marked (s .undos) (s .lines) (after .mark-logged .last .0) (whole begun) marks in
+    let free : Lines = record { holders = holders .last .0; dirty = s .lines .dirty; states = states .last .0 } in
     commit-done s (a .thread) (a .supply) home (a .working .now) (a .log .now) (is-ready begun home allowed)
-    (a .count) (allowed .records) (freed s (free .result) (a .thread) (a .count)) (made .last .0) (made .result)
+    (a .count) (allowed .records) (freed s free (a .thread) (a .count)) (made .last .0) (made .result)
     (enough .if1 .left) (made .ensures (s .lines .dirty))
-    (commit-next s (free .result) (a .thread) (a .count)
-    (free .ensures n (omega arith) ∙ released-all (a .thread) n marked ∙ ap (λ (ls : List Line). map (released (a .thread)) ls) lines))
+    (commit-next s free (a .thread) (a .count)
+    (released-all (a .thread) n marked (holders .last .0) (states .last .0) wide (omega arith) (rw few at (holders .ensures))
+    (rw few at (states .ensures))
+    ∙ ap (λ (ls : List Line). map (released (a .thread)) ls) lines))
 
 pub carry-out-spec : {M : Type 1} → statement M
 carry-out-spec =
@@ -133,8 +162,11 @@ carry-out-spec =
     same-length-2
     returns
     mark-logged-requires
-    cast-release
-    release-requires
+    cast-lines
+    cast-release-states
+    release-states-requires
+    cast-release-holders
+    release-holders-requires
     element-write-state
     add-state
     same-length-3

@@ -14,27 +14,28 @@ use Rattle.steps.proofs.stepping.make.Tie as tie
 is-consistent-requires : tie.Need-is-consistent-requires
 is-consistent-requires c κs = search needs
 
+-- where the step began, before the state was tested
+abbrev start : tie.After-is-consistent → tie.Start
+start c =
+    c .before .before .before .before .before .before .before .before .before .before .before .before .before .before .before .before .before .before
+
+-- the state is consistent, or it isn't
+sound : (c : tie.After-is-consistent) → c .is-consistent .result ≡ consistent (view (start c .args .state))
+sound c = c .is-consistent .ensures ∙ sound-here (start c .args .state)
+
 unfit-requires : tie.Need-unfit-requires
-unfit-requires c κs = search needs
+unfit-requires c κs = sound (c .before .before .before)
 
 -- the number of the rows before the step's own
 module _ (c : tie.After-unfit) where
-  abbrev tested : tie.After-is-consistent
-  tested = c .before .before .before .before
-
-  abbrev start : tie.Start
-  start =
-      tested .before .before .before .before .before .before .before .before .before .before .before .before .before .before .before .before .before
-      .before
+  abbrev begun : tie.Start
+  begun = start (c .before .before .before .before)
 
   abbrev lent : Memory
-  lent = memory (start .args .home .now) (start .args .working .now) (start .args .log .now)
+  lent = memory (begun .args .home .now) (begun .args .working .now) (begun .args .log .now)
 
-  sound : tested .is-consistent .result ≡ consistent (view (start .args .state))
-  sound = tested .is-consistent .ensures ∙ sound-here (start .args .state)
-
-  number : c .unfit .result ≡ numberOf (early (stepOf (start .args .step)) (view (start .args .state)) lent)
-  number = c .unfit .ensures (view (start .args .state)) refl refl refl refl sound
+  number : c .unfit .result ≡ numberOf (early (stepOf (begun .args .step)) (view (begun .args .state)) lent)
+  number = c .unfit .ensures
 
 refused-requires : tie.Need-refused-requires
 refused-requires c κs = search needs
@@ -51,7 +52,7 @@ same-length-3 c = search needs
 returns : tie.Need-returns
 returns c =
     let d = c .before .before in
-    let a = start d .args in
+    let a = begun d .args in
     rw (c .refused .ensures)
     (sym (early-refused (stepOf (a .step)) (a .supply) (view (a .state)) (lent d) (d .unfit .result) (number d) (c .before .if1 .taken)))
 

@@ -7,6 +7,7 @@ use denote.Enum.Declared.{tagOf}
 use types.Run.{OneOf, miss}
 use Rattle.model.specs.Machine.{Machine, Memory}
 use Rattle.model.specs.Refusals.{numberOf, common}
+use Rattle.state.specs.View.{view}
 use Rattle.steps.specs.Steps.{stepOf, early}
 use Rattle.steps.specs.declared.Step.{Step}
 use Rattle.steps.specs.declared.Step.the-variants.{Begin, Store, LogUndo, LogRedo, Evict, WriteBack, Commit, DeleteOldest, Recover}
@@ -47,16 +48,19 @@ common-requires c κs = search needs
 
 returns : tie.Need-returns
 unfolding numberOf
-returns c m lost words slots head sound =
-    rw (c .before .before .enum-told .given .1) (simp (c .refuse2 .ensures, c .before .refuse .ensures, lost, sound))
+returns c =
+    let sound = c .before .before .before .before .before .before .before .pre in
+    rw (c .before .before .enum-told .given .1) (simp (c .refuse2 .ensures, c .before .refuse .ensures, sound))
 
 returns-2 : tie.Need-returns-2
 unfolding numberOf
-returns-2 c m lost words slots head sound = rw (c .enum-told2 .given .1)
+returns-2 c = rw (c .enum-told2 .given .1)
 
 returns-3 : tie.Need-returns-3
-returns-3 c m lost words slots head sound =
-    rw (common-early _ m _ (c .before .match .keys3)) (c .common .ensures m lost words slots head sound)
+returns-3 c =
+    let start = c .before .before .before .before .before in
+    rw (common-early _ (view (start .args .state)) _ (c .before .match .keys3))
+    (c .common .ensures (view (start .args .state)) refl refl refl refl (start .pre))
 
 pub unfit-spec : {M : Type 1} → statement M
 unfit-spec =

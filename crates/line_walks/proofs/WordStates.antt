@@ -46,6 +46,12 @@ unfolding allMarked
 length-marked [] ss = refl
 length-marked (w ∷ ws) ss = length-marked ws (replaced ss w URLog) ∙ simp length-set
 
+-- and so do the lines whose words were
+pub whole-marked : (ws : List ℕ) (ls : Lines) (ss : List ℕ) (k : ℕ) → WholeLines ls → ss ≡ allMarked (take k ws) (ls .states)
+    → WholeLines (withStates ss ls)
+whole-marked ws ls ss k w e =
+    record { holders = w .holders; dirty = w .dirty; states = ap length e ∙ length-marked (take k ws) (ls .states) ∙ w .states }
+
 -- one word more is marked last
 marked-last : (ws : List ℕ) (w : ℕ) (ss : List ℕ) → allMarked (ws ++ (w ∷ [])) ss ≡ replaced (allMarked ws ss) w URLog
 unfolding allMarked

@@ -1,5 +1,5 @@
 -- What a step that logs the oldest entry of a buffer hands back, f giving the entry's record. The buffer has n entries, `at` by their places.
-use Prim.Native.Nat.{ℕ, _+_, _≤_, _<_, min}
+use Prim.Native.Nat.{ℕ, _+_, _/_, _≤_, _<_, min}
 use mathlib.Core.Path.{_≡_, sym, _∙_}
 use mathlib.Core.Bool.{false, cond, _&&_, false≢true}
 use mathlib.Core.List.{List, [], _∷_, _++_, map}
@@ -15,14 +15,19 @@ use Rattle.parts.specs.declared.RedoBuffer.{RedoBuffer}
 use Rattle.parts.specs.declared.UndoBuffer.{UndoBuffer}
 use Rattle.parts.specs.declared.Lines.{Lines}
 use Rattle.parts.specs.Listed.{listed}
-use Rattle.parts.specs.Waiting.{changedWithin}
-use Rattle.parts.proofs.Waiting.{changed-within}
+use Rattle.parts.specs.Waiting.{undosWaiting, changedWithin}
+use Rattle.parts.proofs.Waiting.{undoAt, changed-within}
+use Rattle.parts.proofs.Oldest.{length-oldest}
+use Rattle.parts.proofs.FirstLines.{WholeLines}
 use Rattle.parts.proofs.Listed.{length-listed}
 use Rattle.model.specs.Lists.{isEmpty}
 use Rattle.model.specs.Machine.{Machine, Memory, lostMachine, freeSlots}
 use Rattle.model.specs.Plan.{append, planned}
 use Rattle.model.specs.Refusals.{Row, row, unless, numberOf, nothing, noRoom, common}
 use Rattle.model.specs.Step.{Step, planOf, taken, stepped}
+use Rattle.model.specs.Steps.{undoRedoRecord, undosLogged}
+use Rattle.line_walks.specs.Walks.{allMarked}
+use Rattle.line_walks.proofs.WordStates.{withStates, logged-lines}
 use Rattle.model.proofs.Outcomes.{none-apply, outcome-refused}
 use Rattle.model.proofs.Fit.{Clauses, Fit}
 use Rattle.logging.proofs.Appending.{Appended}
@@ -145,3 +150,30 @@ module _ (s : Step) (f : Entry → Record) (places count : ℕ) (at : ℕ → En
         → r .answer ≡ 0 → view (r .state) ≡ next → shown r (mem .home) (mem .working) log ≡ stepped s c m mem
     oldest-done r log h =
         append-done s c m mem rows (oldest f count at) next (mem .working) plan (a .none) (a .fits) (a .below) r log (omega arith)
+
+-- the state whose k oldest undo+redo entries are logged, changed in place
+abbrev pub undosGone : Fields → ℕ → List ℕ → UndoBuffer → Fields
+undosGone s k ss rest =
+    record {
+      lost = s .lost;
+      words = s .words;
+      slots = s .slots;
+      head = s .head;
+      tail = s .tail + k;
+      opened = s .opened;
+      lines = withStates ss (s .lines);
+      undos = rest;
+      redos = s .redos;
+    }
+
+-- their words are marked, the others wait, and the tail is past their records
+pub undos-gone : (s : Fields) (k : ℕ) (ss : List ℕ) (rest : UndoBuffer) → WholeLines (s .lines) → length (s .undos .words) ≡ 16
+    → k ≤ s .undos .len → s .undos .len ≤ 16 → s .words ≤ 512 → ss ≡ allMarked (take k (s .undos .words)) (s .lines .states)
+    → undosWaiting rest ≡ changedWithin 16 (s .undos .len) (undosWaiting (s .undos)) (drop k (undosWaiting (s .undos)))
+    → view (undosGone s k ss rest) ≡ undosLogged k (view s)
+undos-gone s k ss rest whole places some short narrow marks dropped =
+    let b = s .undos in
+    let left : undosWaiting rest ≡ drop k (undosWaiting b) = rest-waits 16 k (b .len) (undoAt b) (undosWaiting rest) short dropped in
+    let n : length (map undoRedoRecord (take k (undosWaiting b))) ≡ k = length-oldest undoRedoRecord k (b .len) (undoAt b) some in
+    let lines = logged-lines b (s .lines) places short whole k (s .words / 8) some (omega arith) in
+    rw (left, n, marks, lines)

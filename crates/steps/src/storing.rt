@@ -26,8 +26,8 @@ use crate::refusals::refuse;
 use crate::refusals::refused;
 use crate::words::holder_of;
 use crate::words::state_of;
-use crate::words::undos_logged;
 use line_walks::mark;
+use line_walks::mark_logged;
 use logging::append_undos;
 use parts::Entry;
 use parts::Lines;
@@ -92,7 +92,12 @@ pub fn next_state(mut state: Fields, entry: Entry, count: usize) -> Fields
     match kind {
         CLEAN => {
             if count != 0 {
-                state = undos_logged(state, count);
+                let words = state.undos.words;
+                mark_logged(&mut state.lines.states, &words, count);
+                let undos = state.undos;
+                let rest = undos.drop_oldest(count);
+                state.undos = rest;
+                state.tail = state.tail + count as u64;
             }
             let at = state.undos.len;
             put_thread(&mut state.undos.threads, at, entry.thread);

@@ -8,7 +8,6 @@ use lib.ListN.{length, take}
 use lib.Seq.{take-all}
 use Rattle.parts.specs.declared.Line.{Line}
 use Rattle.parts.specs.declared.Lines.{Lines}
-use Rattle.parts.specs.declared.UndoBuffer.{UndoBuffer}
 use Rattle.parts.specs.Lines.{firstLines}
 use Rattle.parts.specs.Waiting.{undosWaiting}
 use Rattle.parts.proofs.FirstLines.{WholeLines}
@@ -16,9 +15,8 @@ use Rattle.parts.proofs.Waiting.{undoAt}
 use Rattle.parts.proofs.Listed.{length-listed}
 use Rattle.model.specs.Machine.{allLogged}
 use Rattle.model.specs.Steps.{released}
-use Rattle.line_walks.specs.Walks.{allMarked}
 use Rattle.line_walks.proofs.ReleasedLines.{released-all}
-use Rattle.line_walks.proofs.WordStates.{withStates, length-marked, logged-lines}
+use Rattle.line_walks.proofs.WordStates.{withStates, whole-marked, logged-lines}
 use Rattle.state.specs.View.{view, memory}
 use Rattle.steps.specs.Committing.{Allowed}
 use Rattle.steps.proofs.Commits.{Ready, ready, freed, commit-next, commit-done, commit-cut}
@@ -67,12 +65,6 @@ returns c home allowed =
     commit-cut (a .t1) (a .thread) (a .supply) home (a .working .now) (a .log .now) (is-ready s home allowed)
     (a .count) (allowed .records) (cleared .result) (cleared .last .0) (made .last .0) (made .result)
     (c .before .before .before .before .if1 .taken) (made .ensures (a .t1 .lines .dirty)) (cleared .ensures .0) (cleared .ensures .1)
-
--- marked lines have as many places
-whole-marked : (b : UndoBuffer) (ls : Lines) (ss : List ℕ) → WholeLines ls → ss ≡ allMarked (take (b .len) (b .words)) (ls .states)
-    → WholeLines (withStates ss ls)
-whole-marked b ls ss w e =
-    record { holders = w .holders; dirty = w .dirty; states = ap length e ∙ length-marked (take (b .len) (b .words)) (ls .states) ∙ w .states }
 
 -- the arrays of the state have their places
 places : (c : tie.Start) → length (c .args .t1 .undos .words) ≡ 16
@@ -140,7 +132,7 @@ returns-2 c home allowed =
     rw (marks, ← all)
     (logged-lines (s .undos) (s .lines) (places begun) (omega arith) (whole begun) (s .undos .len) n (omega arith) (omega arith)) in
     let few : min n 64 ≡ n = omega arith in
-    let wide = whole-marked (s .undos) (s .lines) (after .mark-logged .last .0) (whole begun) marks in
+    let wide = whole-marked (s .undos .words) (s .lines) (after .mark-logged .last .0) (s .undos .len) (whole begun) marks in
     let free : Lines = record { holders = holders .last .0; dirty = s .lines .dirty; states = states .last .0 } in
     commit-done s (a .thread) (a .supply) home (a .working .now) (a .log .now) (is-ready begun home allowed)
     (a .count) (allowed .records) (freed s free (a .thread) (a .count)) (made .last .0) (made .result)

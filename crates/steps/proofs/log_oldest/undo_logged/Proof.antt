@@ -1,25 +1,21 @@
 -- `undo_logged` meets its contract: refused, cut, or done with the oldest undo+redo entry logged.
-use Prim.Native.Nat.{ℕ, _/_}
-use mathlib.Core.Path.{_≡_, refl, ap, _∙_}
+use mathlib.Core.Path.{_≡_, refl}
 use mathlib.Core.List.{List, _++_, map}
 use native.Mathlib.Omega.{arith}
 use borrow.Author.Needs.{needs}
-use lib.ListN.{length, take, drop}
+use lib.ListN.{length}
 use Rattle.log.specs.declared.Record.{Record}
-use Rattle.parts.specs.Lines.{firstLines}
-use Rattle.parts.specs.Waiting.{undosWaiting}
 use Rattle.parts.proofs.FirstLines.{WholeLines}
 use Rattle.parts.proofs.Waiting.{undoAt}
-use Rattle.model.specs.Machine.{Memory, allLogged}
+use Rattle.model.specs.Machine.{Memory}
 use Rattle.model.specs.Plan.{append, planned}
 use Rattle.model.specs.Refusals.{unless, numberOf, common}
 use Rattle.model.specs.Steps.{undoRedoRecord, undosLogged, logUndoPlan}
 use Rattle.model.specs.Step.{logUndo, planOf}
 use Rattle.logging.proofs.Guards.{undos-appended}
-use Rattle.line_walks.proofs.WordStates.{withStates, logged-lines}
 use Rattle.state.specs.declared.Fields.{Fields}
 use Rattle.state.specs.View.{view, memory}
-use Rattle.steps.proofs.LoggingOldest.{ownRows, oldest, count-oldest, rest-waits, oneLogged, in-log, Ready, ready}
+use Rattle.steps.proofs.LoggingOldest.{ownRows, oldest, count-oldest, undosGone, undos-gone, in-log, Ready, ready}
 use Rattle.steps.proofs.LoggingOldest.{oldest-refused, oldest-cut, oldest-done}
 use Rattle.steps.proofs.log_oldest.undo_logged.Statement.{statement}
 use Rattle.steps.proofs.log_oldest.undo_logged.Tie as tie
@@ -137,14 +133,10 @@ returns-3 c =
     let mem = memory (a .home .now) (a .working .now) (a .log .now) in
     let e = appended .append-undos in
     let k = known begun in
-    let rest : undosWaiting (dropped .result) ≡ drop 1 (undosWaiting (s .undos)) =
-    rest-waits 16 1 (s .undos .len) (undoAt (s .undos)) (undosWaiting (dropped .result)) (k .short) (dropped .ensures) in
-    let n = s .words / 8 in
-    let lines : firstLines n (withStates (marked .last .0) (s .lines)) ≡ allLogged (take 1 (undosWaiting (s .undos))) (firstLines n (s .lines)) =
-    ap (λ (ss : List ℕ). firstLines n (withStates ss (s .lines))) (marked .ensures (whole-lines b .states) (places b))
-    ∙ logged-lines (s .undos) (s .lines) (places b) (k .short) (whole-lines b) 1 n (k .some) (omega (arith, k .narrow)) in
-    let next = oneLogged s (withStates (marked .last .0) (s .lines)) (dropped .result) (s .redos) in
-    let same : view next ≡ undosLogged 1 (view s) = rw (rest, k .one, lines) in
+    let next = undosGone s 1 (marked .last .0) (dropped .result) in
+    let same : view next ≡ undosLogged 1 (view s) =
+    undos-gone s 1 (marked .last .0) (dropped .result) (whole-lines b) (places b) (k .some) (k .short) (k .narrow)
+    (marked .ensures (whole-lines b .states) (places b)) (dropped .ensures) in
     oldest-done logUndo undoRedoRecord 16 (s .undos .len) (undoAt (s .undos)) (a .supply) (view s) mem (undosLogged 1 (view s)) (plan s mem) k
     (record { answer = 0; left = e .result; state = next }) (e .last .0) (taken .if2 .left)
     (undos-appended 1 (s .undos) (k .short) (e .ensures)) refl same

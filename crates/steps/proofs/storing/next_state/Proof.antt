@@ -21,7 +21,8 @@ use Rattle.model.specs.Machine.{Memory, changed, heldBy, dirtyAs, stateIn, with
 use Rattle.model.specs.Steps.{undosLogged, storeNext}
 use Rattle.state.specs.declared.Fields.{Fields}
 use Rattle.state.specs.View.{view}
-use Rattle.line_walks.proofs.WordStates.{withStates, first-marked}
+use Rattle.line_walks.proofs.WordStates.{withStates, first-marked, whole-marked}
+use Rattle.steps.proofs.LoggingOldest.{undos-gone}
 use Rattle.steps.proofs.Filing.{logs-most, logs-none, none-logged, logs-room, undos-length, logged-limits, next-same, next-other}
 use Rattle.steps.proofs.Filing.{held-lines, dirty-lines, whole-dirty, WholeUndos, Ready}
 use Rattle.steps.proofs.Filing.{filed-first, filed-dirty, filed-logged, filed-last, discarded-none}
@@ -36,11 +37,8 @@ whole-lines c = search needs
 whole-buffer : (c : tie.Start) → WholeUndos (c .args .t1 .undos)
 whole-buffer c = search needs
 
-result-lines : (r : Fields) → lts.r·3 .is .Ok tt r → WholeLines (r .lines)
-result-lines r ok = search needs
-
-result-buffer : (r : Fields) → lts.r·3 .is .Ok tt r → WholeUndos (r .undos)
-result-buffer r ok = search needs
+rest-buffer : (r : UndoBuffer) → lts.r·4 .is .Ok tt r → WholeUndos r
+rest-buffer r ok = search needs
 
 cast-line : tie.Need-cast-line
 cast-line c = search needs
@@ -126,29 +124,50 @@ module _ (c : tie.After-put-flag) where
       (logs-none (view s) (e .word) (eqb (e .redo) (e .undo)) (c .before .before .before .before .before .before .state-of .result) (start .args .count)
       differs kind ne (start .pre .1 .1))
 
-undos-logged-requires : tie.Need-undos-logged-requires
-undos-logged-requires c κs =
-    let here = c .before .before in
-    let p = start here .pre in
+mark-logged-requires : tie.Need-mark-logged-requires
+mark-logged-requires c κs = search needs
+
+drop-oldest-requires : tie.Need-drop-oldest-requires
+drop-oldest-requires c κs = search needs
+
+-- at most one entry is logged first, and no more than wait
+few-first : (here : tie.After-put-flag) → (start here .args .count ≤ 1) × (start here .args .count ≤ s here .undos .len)
+few-first here =
     let few = logs-most (view (s here)) (e here .word) (eqb (e here .redo) (e here .undo)) in
     let len = undos-length (s here .undos) in
-    let count = p .1 .1 in
+    let count = start here .pre .1 .1 in
+    (omega arith, omega arith)
+
+add-state : tie.Need-add-state
+add-state c =
+    let here = c .before .before .before .before .before .before .before .before in
+    let few = few-first here .0 in
+    let p = start here .pre in
     omega arith
 
 -- room is made for the entry of a Clean word
 ready : (j : tie.Joined2) → Ready (undosLogged (start (j .before .before) .args .count) (view (claimed (j .before .before)))) (j .if2 .state)
 ready j =
     let here = j .before .before in
+    let p = start here .pre in
+    let wide = whole-claimed here in
+    let places = whole-undos here .keys .words in
     ⊎-elim
     (λ w.
-    let lines = result-lines (w .1 .result) (w .1 .ok) in
-    let undos = result-buffer (w .1 .result) (w .1 .ok) in
-    rw (w .2) (record { seen = w .1 .ensures; lines = lines; undos = undos }))
+    let marks = w .4 .ensures (wide .states) places in
+    let ss = w .4 .last .0 in
+    rw (w .7)
+    (record {
+      seen = undos-gone (claimed here) (start here .args .count) ss (w .6 .result) wide places (few-first here .1) (omega arith) (omega arith) marks
+          (w .6 .ensures);
+      lines = whole-marked (s here .undos .words) (lines here) ss (start here .args .count) wide marks;
+      undos = rest-buffer (w .6 .result) (w .6 .ok);
+    }))
     (λ w.
     rw (w .1)
     (record {
       seen = none-logged (view (claimed here)) (start here .args .count) (w .0 .left);
-      lines = whole-claimed here;
+      lines = wide;
       undos = whole-undos here;
     }))
     (j .if2 .came)
@@ -180,8 +199,8 @@ put-value-requires-2 : tie.Need-put-value-requires-2
 put-value-requires-2 c κs =
     limits (c .before .before .before .before .before .before .before) .0
 
-add-state : tie.Need-add-state
-add-state c =
+add-state-2 : tie.Need-add-state-2
+add-state-2 c =
     let l = limits (c .before .before .before .before .before .before .before .before) .0 in
     search needs
 
@@ -327,12 +346,14 @@ next-state-spec =
     put-holder-requires
     returns
     put-flag-requires
-    undos-logged-requires
+    mark-logged-requires
+    drop-oldest-requires
+    add-state
     put-thread-requires
     put-word-requires
     put-value-requires
     put-value-requires-2
-    add-state
+    add-state-2
     mark-requires
     discard-requires
     find-requires

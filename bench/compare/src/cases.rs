@@ -202,6 +202,9 @@ pub fn waiting(undos: u64, redos: u64) -> Vec<Case> {
         case("store, equal value", MANY, |s| {
             s.each(MANY, |s, _| s.store(0, 200, 0))
         }),
+        case("store, word Clean", 8, |s| {
+            s.each(8, |s, i| s.store(0, 200 + i, 1))
+        }),
         case("write back", MANY, |s| {
             s.each(MANY, |s, _| s.write_back(30))
         }),

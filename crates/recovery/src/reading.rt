@@ -9,8 +9,8 @@ use log::Record;
 // What the reading has found: the number of the next record, whether one was bad, and the number of each thread's last commit, or 0.
 pub struct Found {
     pub tail: u64,
-    pub bad: bool,
     pub last: [u64; 8],
+    pub bad: bool,
 }
 
 // Reads a record, and notes it if it is a commit. Hands back whether it is bad.

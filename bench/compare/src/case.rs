@@ -12,7 +12,7 @@ pub struct Case {
     before: Steps,
     whole: Steps,
     per: f64,
-    best: Lists,
+    passes: Vec<Lists>,
 }
 
 /// The shortest times of the list before on both sides, then of the whole list.
@@ -47,7 +47,7 @@ impl Case {
             before,
             whole,
             per: per as f64,
-            best: [f64::INFINITY; 4],
+            passes: Vec::new(),
         }
     }
 
@@ -86,17 +86,22 @@ impl Case {
 
     /// Takes note of what a pass measured.
     pub fn note(&mut self, lists: Lists) {
-        for (best, time) in self.best.iter_mut().zip(lists) {
-            *best = best.min(time);
+        self.passes.push(lists);
+    }
+
+    /// Of each side the median over the passes.
+    pub fn times(&self) -> Times {
+        Times {
+            twin: self.median(|[before, _, whole, _]| whole - before),
+            rattle: self.median(|[_, before, _, whole]| whole - before),
         }
     }
 
-    pub fn times(&self) -> Times {
-        let [twin, rattle, whole_twin, whole_rattle] = self.best;
-        Times {
-            twin: (whole_twin - twin) / self.per,
-            rattle: (whole_rattle - rattle) / self.per,
-        }
+    /// The median of what `of` gives for each pass, for one.
+    fn median(&self, of: impl Fn(Lists) -> f64) -> f64 {
+        let mut all: Vec<f64> = self.passes.iter().map(|&lists| of(lists)).collect();
+        all.sort_by(f64::total_cmp);
+        all[all.len() / 2] / self.per
     }
 
     /// Runs one list on one side, to be looked at by a profiler.

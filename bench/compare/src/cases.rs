@@ -27,12 +27,27 @@ fn changed_line() -> Steps {
     store_line(logged_line(), 101)
 }
 
+/// Rounds in each of which words 0 to 7 become ULog and, if asked for, their
+/// line is evicted.
+fn evictions(evict: bool) -> Steps {
+    Steps::default().each(MANY, |s, _| {
+        let s = store_line(s.recover().begin(0), 1).each(8, |s, _| s.log_undo());
+        let s = store_line(s, 101);
+        if evict {
+            s.evict(0)
+        } else {
+            s
+        }
+    })
+}
+
 /// Each kind of step, with a log of 1,024 slots.
 pub fn kinds(words: usize) -> Vec<Case> {
     let case = |name: &str, before: Steps, per: u64, timed: fn(Steps) -> Steps| {
         Case::new(name, Buffers::fresh(words, 1024), before, per, timed)
     };
     let begun = || Steps::recovered().begin(0);
+    let all_begun = || Steps::recovered().each(8, |s, t| s.begin(t));
     vec![
         case("begin", Steps::recovered(), 8, |s| {
             s.each(8, |s, t| s.begin(t))
@@ -54,14 +69,18 @@ pub fn kinds(words: usize) -> Vec<Case> {
         case("log redo", changed_line().evict(0), 8, |s| {
             s.each(8, |s, _| s.log_redo())
         }),
-        case("evict, 8 words ULog", changed_line(), 1, |s| s.evict(0)),
+        case("evict, 8 words ULog", evictions(false), MANY, |_| {
+            evictions(true)
+        }),
         case("evict, clean line", Steps::recovered(), MANY, |s| {
             s.each(MANY, |s, _| s.evict(0))
         }),
         case("write back", dirty_line().commit(0), MANY, |s| {
             s.each(MANY, |s, _| s.write_back(0))
         }),
-        case("commit, nothing stored", begun(), 1, |s| s.commit(0)),
+        case("commit, nothing stored", all_begun(), 8, |s| {
+            s.each(8, |s, t| s.commit(t))
+        }),
         case("commit, 1 store", begun().store(0, 0, 1), 1, |s| {
             s.commit(0)
         }),
@@ -113,6 +132,16 @@ pub fn recovery(words: usize, slots: usize, records: u64) -> Case {
     let start = logged(words, slots, records);
     let name = format!("recover, {records} records");
     Case::new(name, start, Steps::default(), 1, Steps::recover)
+}
+
+/// One recovery of an empty log after the other, the buffers being in the
+/// caches.
+pub fn recovered_again(words: usize, slots: usize) -> Case {
+    let start = Buffers::fresh(words, slots);
+    let name = "recover, 0 records, again";
+    Case::new(name, start, Steps::recovered(), MANY, |s| {
+        s.each(MANY, |s, _| s.recover())
+    })
 }
 
 /// How the log is kept from filling.

@@ -9,7 +9,7 @@ mod steps;
 mod table;
 
 use case::Times;
-use cases::{deletes, kinds, recovery, transactions, waiting, Keeping};
+use cases::{deletes, kinds, recovered_again, recovery, transactions, waiting, Keeping};
 use peers::Peer;
 use sides::Side;
 use std::path::Path;
@@ -29,7 +29,9 @@ fn tables() -> Vec<Table> {
     vec![
         Table::new("Each kind of step, L = 1024", &WIDTHS, width, kinds),
         Table::new("Recovery, L = 1024", &WIDTHS, width, |w| {
-            [0, 8, 128, 1024].map(|n| recovery(w, 1024, n)).into()
+            let mut cases = vec![recovered_again(w, 1024)];
+            cases.extend([0, 8, 128, 1024].map(|n| recovery(w, 1024, n)));
+            cases
         }),
         Table::new("A pair transaction, L = 1024", &WIDTHS, width, |w| {
             KEEPING.map(|k| transactions(w, 1024, k)).into()

@@ -1,15 +1,13 @@
 -- What the walks over the lines, and over the words of a line, hand back on every input.
-use Prim.Native.Nat.{ℕ, zero, suc, _+_, _*_, _/_, _%_}
-use mathlib.Core.Bool.{Bool, cond, _&&_}
+use Prim.Native.Nat.{ℕ, zero, suc, _+_, _-_, _*_, _/_, _%_}
+use mathlib.Core.Bool.{cond}
 use mathlib.Core.List.{List, [], _∷_, map}
 use lib.Dec.{eqb, leb}
 use lib.ListN.{length, getD, set}
 use Rattle.log.specs.Stores.{Store}
-use Rattle.parts.specs.declared.Entry.{Entry}
-use Rattle.parts.specs.declared.Line.{Line}
+use Rattle.parts.specs.Arrays.{closed, placed}
 use Rattle.parts.specs.Lines.{nobody}
 use Rattle.parts.specs.States.{stateAt, withState, URLog, ULog}
-use Rattle.parts.specs.Waiting.{added}
 use Rattle.model.specs.Lists.{keep, upTo}
 use Rattle.model.specs.Steps.{lineWrites}
 
@@ -18,26 +16,21 @@ unfoldable pub allMarked : List ℕ → List ℕ → List ℕ
 allMarked [] ss = ss
 allMarked (w ∷ ws) ss = allMarked ws (set ss (w / 8) (withState (getD ss (w / 8) 0) (w % 8) URLog))
 
--- word j of a line is ULog
-abbrev pub isULog : Line → ℕ → Bool
-isULog line j = eqb (stateAt (line .states) j) ULog
+-- the ULog words of a line, rising, by the line's states
+abbrev pub ulogWords : ℕ → List ℕ
+ulogWords states = keep (λ j. eqb (stateAt states j) ULog) (upTo 8)
 
--- the redo entry "of its working value for the line's holder", `first` being the line's first word
-abbrev pub ulogEntry : Line → List ℕ → ℕ → ℕ → Entry
-ulogEntry line working first j =
-    record { thread = line .holder; word = first + j; undo = 0; redo = getD working (first + j) 0 }
+-- "each ULog word, rising, adds a redo entry of its working value for the line's holder": an array of the redo buffer's 32 places after it,
+-- f giving the entry's number by the word. Of its `len` entries the oldest are logged before and gone.
+abbrev pub refilled : (ℕ → ℕ) → ℕ → ℕ → ℕ → List ℕ → List ℕ
+refilled f len gone states xs = placed (len - gone) (map f (ulogWords states)) (closed 0 gone len xs)
 
--- "each ULog word, rising, adds a redo entry": those of a line whose eight words are there, among at most 512
-unfoldable pub ulogEntries : Line → List ℕ → ℕ → List Entry
-ulogEntries line working first =
-    cond (leb (first + 8) (length working) && leb (length working) 512)
-    (map (ulogEntry line working first) (keep (isULog line) (upTo 8)))
-    []
+-- the numbers of the entries of line i: its words, and their working values
+abbrev pub wordsIn : ℕ → ℕ → ℕ
+wordsIn i j = 8 * i + j
 
--- redo entries added one after the other, while one of the 32 places is left
-unfoldable pub addedAll : List Entry → List Entry → List Entry
-addedAll [] es = es
-addedAll (x ∷ xs) es = addedAll xs (added 32 x es)
+abbrev pub valuesIn : List ℕ → ℕ → ℕ → ℕ
+valuesIn working i j = getD working (8 * i + j) 0
 
 -- "its 8 working words are stored, rising": those of a line that is there
 unfoldable pub lineStores : List ℕ → ℕ → List Store

@@ -4,7 +4,7 @@ ghost use Prim.Native.Nat.{_/_, _%_};
 ghost use lib.ListN.{length, getD, set, take};
 ghost use Rattle.parts.specs.States.{withState};
 ghost use Rattle.line_walks.specs.Walks.{allMarked};
-use crate::least;
+use parts::least;
 
 // The state of a word replaced, in the states of all 64 lines. There are four states; a word past the last line has none.
 pub fn mark(states: &mut [u16; 64], word: u16, state: u64)

@@ -1,7 +1,5 @@
 // What steps append to the log: the oldest entries of a buffer, and the records of a commit. Each function appends under the supply:
 // as many stores are made as it allows, and what is left of it is handed back.
-ghost use mathlib.Core.Path.{_≡_};
-ghost use Prim.Native.Nat.{min};
 
 mod commit;
 mod newest;
@@ -16,9 +14,3 @@ pub use undos::append_undos;
 
 // Record numbers are below this.
 const NUMBERS: u64 = 0x1_0000_0000_0000;
-
-fn least(a: usize, b: usize) -> usize
-    ensures { λ r. ⌜ r ≡ min a b ⌝ }
-{
-    if a < b { a } else { b }
-}

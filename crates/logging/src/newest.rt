@@ -9,7 +9,7 @@ ghost use Rattle.parts.specs.Lines.{firstLines};
 ghost use Rattle.parts.specs.States.{stateAt, ULog};
 ghost use Rattle.model.specs.Lists.{keep, upTo};
 ghost use Rattle.logging.specs.Newest.{linesOf, newestWords, newestInLine};
-use crate::least;
+use parts::least;
 
 // How many words of a line are ULog, by the line's states.
 pub fn count_ulog(states: u16) -> usize

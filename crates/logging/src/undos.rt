@@ -2,8 +2,8 @@
 ghost use Rattle.logging.specs.Progressed.{Stored};
 ghost use Rattle.logging.specs.Records.{undoRecordsOf};
 use crate::NUMBERS;
-use crate::least;
 use log::Record;
+use parts::least;
 
 // Appends the records of the `count` oldest entries, the first as record `number`. Of a length over 16, which no undo+redo buffer has,
 // nothing is appended.

@@ -6,3 +6,4 @@ pub mod Waiting
 pub mod Oldest
 pub mod Places
 pub mod Closed
+pub mod Placed

@@ -1,12 +1,12 @@
 -- A list by its elements: its length, its elements, and when two are equal.
-use Prim.Native.Nat.{ℕ, suc, zero, _+_, _-_, _<_}
+use Prim.Native.Nat.{ℕ, suc, zero, _+_, _<_}
 use mathlib.Core.Path.{_≡_, refl, sym, ap, ap₂, _∙_}
 use mathlib.Core.List.{List, [], _∷_, _++_}
 use native.Mathlib.Decide.{decLt, ℕ-discrete}
 use native.Mathlib.Omega.{arith}
-use lib.ListN.{length, getD, drop, set, replicate, length-append, length-drop, List·getD-append}
+use lib.ListN.{length, getD, set, replicate, length-append, List·getD-append}
 use lib.ListN.{length-set, length-replicate, getD-replicate}
-use lib.Seq.{getD-at, ext-getD, getD-drop, getD-set-same, getD-set-other}
+use lib.Seq.{getD-at, ext-getD, getD-set-same, getD-set-other}
 use Rattle.parts.specs.Listed.{listed}
 
 module _ {ℓ} {A : Type ℓ} where
@@ -43,13 +43,6 @@ module _ {ℓ} {A : Type ℓ} where
   listed-of n f xs d e h =
       let m : length (listed n f) ≡ n = length-listed n f in
       ext-getD d xs (listed n f) (omega arith) (λ i l. h i (omega arith) ∙ sym (getD-listed n f i d (omega arith)))
-
-  -- without the first k
-  pub drop-listed : (k n : ℕ) (f : ℕ → A) → drop k (listed n f) ≡ listed (n - k) (λ i. f (k + i))
-  drop-listed k n f =
-      let m : length (listed n f) ≡ n = length-listed n f in
-      listed-of (n - k) (λ i. f (k + i)) (drop k (listed n f)) (f 0) (length-drop k (listed n f) ∙ omega arith)
-      (λ i h. getD-drop k (listed n f) i (f 0) ∙ getD-listed n f (k + i) (f 0) (omega arith))
 
   -- element i replaced
   pub set-listed : (n : ℕ) (f g : ℕ → A) (i : ℕ) (x : A) → (i < n → g i ≡ x) → ((k : ℕ) → (k ≡ i → ⊥) → g k ≡ f k) → set (listed n f) i x ≡ listed n g

@@ -2,13 +2,13 @@
 use Prim.Native.Nat.{ℕ, suc, _+_, _≤_, _<_}
 use mathlib.Core.Path.{_≡_, refl, sym, ap, ap₂, _∙_}
 use mathlib.Core.Bool.{Bool, true, false, cond}
-use mathlib.Core.List.{List, [], _∷_, _++_}
+use mathlib.Core.List.{List, [], _∷_, _++_, append-nil}
 use native.Mathlib.Numerals.{add-one}
 use native.Mathlib.Omega.{arith}
 use borrow.Author.Tests.{eq-eqb, ne-eqb}
 use lib.Dec.{eqb}
 use lib.ListN.{length, getD, set, take, drop, drop-of-length-le}
-use lib.Seq.{drop-cons, getD-set-same, getD-set-other, set-out}
+use lib.Seq.{take-all, drop-cons, getD-set-same, getD-set-other, set-out}
 use Rattle.parts.specs.declared.Entry.{Entry}
 use Rattle.parts.specs.Listed.{listed}
 use Rattle.parts.specs.Waiting.{entryOf, waitingOf, discarded, withRedo, amended, placeOf}
@@ -42,18 +42,6 @@ module _ (w n : ℕ) (f : ℕ → Entry) where
       let l : length (listed n f) ≤ i = rw length-listed h in
       ap (placeOf w) (drop-of-length-le (listed n f) l)
 
--- a place is one of the list's, or next after the last
-place-le : (w : ℕ) (es : List Entry) → placeOf w es ≤ length es
-unfolding placeOf
-place-le w [] = omega arith
-place-le w (e ∷ es) =
-    let h : placeOf w es ≤ length es = place-le w es in
-    elim (eqb (e .word) w) as (λ (t : Bool). cond t 0 (suc (placeOf w es)) ≤ suc (length es)) [ true ↦ omega arith | false ↦ omega arith ]
-
--- the same of a buffer
-pub place-within : (w n : ℕ) (f : ℕ → Entry) → placeOf w (listed n f) ≤ n
-place-within w n f = rw length-listed at (place-le w (listed n f))
-
 -- discarded is the entry at the word's place
 discarded-place : (w : ℕ) (es : List Entry) → discarded w es ≡ take (placeOf w es) es ++ drop (suc (placeOf w es)) es
 unfolding placeOf discarded
@@ -68,6 +56,15 @@ discarded-place w (e ∷ es) =
 -- the same, with the place known by an equation
 pub discarded-at : (w : ℕ) (es : List Entry) (at : ℕ) → at ≡ placeOf w es → take at es ++ drop (at + 1) es ≡ discarded w es
 discarded-at w es at e = rw (add-one, e) (sym (discarded-place w es))
+
+-- of a word that has none, nothing is
+pub discarded-none : (w n : ℕ) (f : ℕ → Entry) (at : ℕ) → n ≤ at → at ≡ placeOf w (listed n f) → listed n f ≡ discarded w (listed n f)
+discarded-none w n f at h e =
+    let l : length (listed n f) ≡ n = length-listed n f in
+    let past : length (listed n f) ≤ at + 1 = omega arith in
+    sym (append-nil (listed n f))
+    ∙ ap₂ (λ (xs ys : List Entry). xs ++ ys) (sym (take-all at (listed n f) (omega arith))) (sym (drop-of-length-le (listed n f) past))
+    ∙ discarded-at w (listed n f) at e
 
 -- amended is the entry at the word's place
 amended-place : (w v : ℕ) (es : List Entry) (d : Entry) → amended w v es ≡ set es (placeOf w es) (withRedo v (getD es (placeOf w es) d))

@@ -1,20 +1,17 @@
 -- The entries that wait in a buffer, by the lists of their fields, after an entry was put at a place or added.
-use Prim.Native.Nat.{ℕ, _+_, _≤_, _<_}
-use mathlib.Core.Path.{_≡_, sym, ap, ap₂, _∙_}
-use mathlib.Core.Bool.{Bool, cond}
+use Prim.Native.Nat.{ℕ, _+_, _<_}
+use mathlib.Core.Path.{_≡_, sym, ap₂}
 use mathlib.Core.List.{List, [], _∷_, _++_}
 use native.Mathlib.Numerals.{add-one}
 use native.Mathlib.Omega.{arith}
-use borrow.Author.Tests.{le-leb, lt-leb}
-use lib.Dec.{ltb}
 use lib.ListN.{length, getD, set, length-set}
 use lib.Seq.{getD-set-same, getD-set-other}
 use Rattle.parts.specs.declared.Entry.{Entry}
 use Rattle.parts.specs.declared.UndoBuffer.{UndoBuffer}
 use Rattle.parts.specs.declared.RedoBuffer.{RedoBuffer}
 use Rattle.parts.specs.Listed.{listed}
-use Rattle.parts.specs.Waiting.{entryOf, waitingOf, added, changedWithin}
-use Rattle.parts.proofs.Listed.{length-listed, listed-ext}
+use Rattle.parts.specs.Waiting.{entryOf, waitingOf}
+use Rattle.parts.proofs.Listed.{listed-ext}
 
 -- the entry at a place of a buffer
 abbrev pub undoAt : UndoBuffer → ℕ → Entry
@@ -35,7 +32,7 @@ pub record WholeBuffer (n : ℕ) (ts ws us rs : List ℕ) : Type 0 where
   pub undos : length us ≡ n
 
 -- two entries are equal, if their fields are
-entry-eq : (a b : Entry) → a .thread ≡ b .thread → a .word ≡ b .word → a .undo ≡ b .undo → a .redo ≡ b .redo → a ≡ b
+pub entry-eq : (a b : Entry) → a .thread ≡ b .thread → a .word ≡ b .word → a .undo ≡ b .undo → a .redo ≡ b .redo → a ≡ b
 entry-eq a b t w u r = λ i. record { thread = t i; word = w i; undo = u i; redo = r i }
 
 -- the lists of the fields
@@ -45,7 +42,7 @@ module _ (threads words undos redos : List ℕ) where
   putEntry i e = entryOf (set threads i (e .thread)) (set words i (e .word)) (set undos i (e .undo)) (set redos i (e .redo))
 
   -- the other entries remain
-  pub put-other : (i k : ℕ) (e : Entry) → (k ≡ i → ⊥) → putEntry i e k ≡ entryOf threads words undos redos k
+  put-other : (i k : ℕ) (e : Entry) → (k ≡ i → ⊥) → putEntry i e k ≡ entryOf threads words undos redos k
   put-other i k e ne = simp getD-set-other
 
   -- the entry that was put is there, if its undo is
@@ -63,7 +60,7 @@ module _ (threads words undos redos : List ℕ) where
       (listed-ext len (putEntry len e) (entryOf threads words undos redos) (λ i l. put-other len i e (omega arith))) h)
 
   -- an entry that was put in the undo+redo buffer is there
-  pub put-same : (n i : ℕ) (e : Entry) → WholeBuffer n threads words undos redos → i < n → putEntry i e i ≡ e
+  put-same : (n i : ℕ) (e : Entry) → WholeBuffer n threads words undos redos → i < n → putEntry i e i ≡ e
   put-same n i e w h = put-by n i e (w .keys) h (getD-set-same undos i (e .undo) 0 (omega (arith, w .undos)))
 
   -- one that is put next after the last, with a length to match, waits after the others
@@ -73,34 +70,15 @@ module _ (threads words undos redos : List ℕ) where
 
 -- the same of the redo buffer, in which an entry has no undo
 module _ (threads words redos : List ℕ) where
-  pub redo-same : (n i : ℕ) (e : Entry) → WholeKeys n threads words redos → e .undo ≡ 0 → i < n → putEntry threads words [] redos i e i ≡ e
+  redo-same : (n i : ℕ) (e : Entry) → WholeKeys n threads words redos → e .undo ≡ 0 → i < n → putEntry threads words [] redos i e i ≡ e
   redo-same n i e w u h = put-by threads words [] redos n i e w h (sym u)
 
   pub redo-added : (n len : ℕ) (e : Entry) → WholeKeys n threads words redos → e .undo ≡ 0 → len < n
       → listed (len + 1) (putEntry threads words [] redos len e) ≡ waitingOf len threads words [] redos ++ (e ∷ [])
   redo-added n len e w u h = added-put threads words [] redos len e (redo-same n len e w u h)
 
--- no field has more or fewer places after an entry was put
+-- no field has more or fewer places after a redo entry was put
 pub keys-put : (n i t w r : ℕ) (threads words redos : List ℕ) → WholeKeys n threads words redos
     → WholeKeys n (set threads i t) (set words i w) (set redos i r)
 keys-put n i t w r threads words redos k =
     record { threads = simp length-set (k .threads); words = simp length-set (k .words); redos = simp length-set (k .redos) }
-
-pub whole-put : (n i t w u r : ℕ) (threads words undos redos : List ℕ) → WholeBuffer n threads words undos redos
-    → WholeBuffer n (set threads i t) (set words i w) (set undos i u) (set redos i r)
-whole-put n i t w u r threads words undos redos b =
-    record { keys = keys-put n i t w r threads words redos (b .keys); undos = simp length-set (b .undos) }
-
--- whether there is a place for an entry is a test of the length
-pub added-by : (n len : ℕ) (f : ℕ → Entry) (e : Entry) (t : Bool) → ltb len n ≡ t
-    → cond t (listed len f ++ (e ∷ [])) (listed len f) ≡ added n e (listed len f)
-added-by n len f e t h =
-    ap (λ (s : Bool). cond s (listed len f ++ (e ∷ [])) (listed len f)) (sym h ∙ ap (λ (k : ℕ). ltb k n) (sym (length-listed len f)))
-
--- a buffer whose length is within its places is changed
-pub changed-within : (most len : ℕ) (old new : List Entry) → len ≤ most → new ≡ changedWithin most len old new
-changed-within most len old new h = ap (λ (t : Bool). cond t new old) (sym (le-leb len most h))
-
--- a longer one is not
-pub changed-over : (most len : ℕ) (old new : List Entry) → most < len → old ≡ changedWithin most len old new
-changed-over most len old new h = ap (λ (t : Bool). cond t new old) (sym (lt-leb len most h))

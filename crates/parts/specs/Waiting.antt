@@ -1,9 +1,9 @@
 -- A log buffer is the list of its entries, oldest first. Document 01: "both first in, first out".
 use Prim.Native.Nat.{ℕ, suc}
 use mathlib.Core.Bool.{cond}
-use mathlib.Core.List.{List, [], _∷_, _++_}
-use lib.Dec.{eqb, leb, ltb}
-use lib.ListN.{getD, length}
+use mathlib.Core.List.{List, [], _∷_}
+use lib.Dec.{eqb}
+use lib.ListN.{getD}
 use Rattle.parts.specs.declared.Entry.{Entry}
 use Rattle.parts.specs.declared.UndoBuffer.{UndoBuffer}
 use Rattle.parts.specs.declared.RedoBuffer.{RedoBuffer}
@@ -26,10 +26,6 @@ undosWaiting b = waitingOf (b .len) (b .threads) (b .words) (b .undos) (b .redos
 abbrev pub redosWaiting : RedoBuffer → List Entry
 redosWaiting b = waitingOf (b .len) (b .threads) (b .words) [] (b .redos)
 
--- an entry added at the end, if one of n places is left for it
-abbrev pub added : ℕ → Entry → List Entry → List Entry
-added n e es = cond (ltb (length es) n) (es ++ (e ∷ [])) es
-
 -- "a redo entry of that word is discarded": the oldest one
 unfoldable pub discarded : ℕ → List Entry → List Entry
 discarded w [] = []
@@ -47,7 +43,3 @@ amended w v (e ∷ es) = cond (eqb (e .word) w) (withRedo v e ∷ es) (e ∷ ame
 unfoldable pub placeOf : ℕ → List Entry → ℕ
 placeOf w [] = 0
 placeOf w (e ∷ es) = cond (eqb (e .word) w) 0 (suc (placeOf w es))
-
--- what waits after a change: a buffer whose length is over its places, which none has that was built here, is left as it is
-abbrev pub changedWithin : ℕ → ℕ → List Entry → List Entry → List Entry
-changedWithin most len old new = cond (leb len most) new old

@@ -1,15 +1,17 @@
 // The parts of the machine's state: the two log buffers, and the lines with the states of their words.
-ghost use mathlib.Core.Path.{_≡_};
-ghost use mathlib.Core.Bool.{cond};
-ghost use lib.Dec.{leb};
-ghost use Prim.Native.Nat.{_≤_, min};
 
+mod closing;
+mod finding;
 mod line_states;
+mod numbers;
 mod redos;
 mod undos;
 
+pub use finding::find;
 pub use line_states::state_at;
 pub use line_states::with_state;
+pub use numbers::least;
+pub use numbers::less;
 
 // An entry that waits to be logged. A redo entry's undo is 0.
 pub struct Entry {
@@ -48,18 +50,4 @@ pub struct Lines {
     pub holders: [u8; 64],
     pub dirty: [bool; 64],
     pub states: [u16; 64],
-}
-
-// The length of a buffer with so many places, or 0 if it is larger, which no buffer's is.
-fn within(len: usize, places: usize) -> usize
-    ensures { λ r. ⌜ r ≡ cond (leb len places) len 0 ⌝ }
-    ensures { λ r. ⌜ (r ≤ places) × (r ≤ len) ⌝ }
-{
-    if len <= places { len } else { 0 }
-}
-
-fn least(a: usize, b: usize) -> usize
-    ensures { λ r. ⌜ r ≡ min a b ⌝ }
-{
-    if a < b { a } else { b }
 }

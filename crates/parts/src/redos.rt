@@ -1,11 +1,12 @@
-// The redo buffer: first in, first out, but for the entry of a word that is discarded.
+// The redo buffer: first in, first out. Entries are taken out of it array by array, each array lent by itself.
 use crate::RedoBuffer;
-use crate::least;
+use crate::closing::close_u8;
+use crate::closing::close_u16;
+use crate::closing::close_u64;
 ghost use mathlib.Core.Path.{_≡_};
-ghost use mathlib.Core.List.{[], _++_};
-ghost use Prim.Native.Nat.{_+_, _≤_};
-ghost use lib.ListN.{take, drop};
-ghost use Rattle.parts.specs.Waiting.{redosWaiting, discarded, placeOf, changedWithin};
+ghost use mathlib.Core.List.{[]};
+ghost use Rattle.parts.specs.Arrays.{closed};
+ghost use Rattle.parts.specs.Waiting.{redosWaiting};
 
 impl RedoBuffer {
     pub fn empty() -> RedoBuffer
@@ -19,62 +20,21 @@ impl RedoBuffer {
         }
     }
 
-    // The k oldest entries taken.
-    pub fn drop_oldest(self, k: usize) -> RedoBuffer
-        ensures { λ (r : RedoBuffer). ⌜ redosWaiting r ≡ changedWithin 32 (self .len) (redosWaiting self) (drop k (redosWaiting self)) ⌝ }
+    pub fn close_threads(threads: &mut [u8; 32], at: usize, from: usize, len: usize)
+        ensures { λ _. ⌜ now (threads .exit) ≡ closed at from len (now (threads .entry)) ⌝ }
     {
-        if self.len <= 32 {
-            self.close(0, k)
-        } else {
-            self
-        }
+        close_u8(threads, at, from, len);
     }
 
-    // The oldest entry of a word taken.
-    pub fn discard(self, word: u16) -> RedoBuffer
-        ensures { λ (r : RedoBuffer). ⌜ redosWaiting r ≡ changedWithin 32 (self .len) (redosWaiting self) (discarded word (redosWaiting self)) ⌝ }
+    pub fn close_words(words: &mut [u16; 32], at: usize, from: usize, len: usize)
+        ensures { λ _. ⌜ now (words .exit) ≡ closed at from len (now (words .entry)) ⌝ }
     {
-        if self.len <= 32 {
-            let at = self.find(word);
-            self.close(at, 1)
-        } else {
-            self
-        }
+        close_u16(words, at, from, len);
     }
 
-    // The place of the oldest entry of a word; without one, the buffer's length.
-    fn find(self, word: u16) -> usize
-        requires { ⌜ self .len ≤ 32 ⌝ }
-        ensures { λ r. ⌜ r ≡ placeOf word (redosWaiting self) ⌝ }
+    pub fn close_values(values: &mut [u64; 32], at: usize, from: usize, len: usize)
+        ensures { λ _. ⌜ now (values .exit) ≡ closed at from len (now (values .entry)) ⌝ }
     {
-        let len = self.len;
-        let mut i = 0;
-        while i < len {
-            if self.words[i] == word {
-                return i;
-            }
-            i += 1;
-        }
-        i
-    }
-
-    // The entries from at + k on moved down to at: the k entries that were there, or as many as there were, are gone.
-    fn close(mut self, at: usize, k: usize) -> RedoBuffer
-        requires { ⌜ self .len ≤ 32 ⌝ }
-        requires { ⌜ at ≤ self .len ⌝ }
-        ensures { λ (r : RedoBuffer). ⌜ redosWaiting r ≡ take at (redosWaiting self) ++ drop (at + k) (redosWaiting self) ⌝ }
-    {
-        let gone = least(k, self.len - at);
-        let end = self.len - gone;
-        let mut i = at;
-        while i < end {
-            let from = i + gone;
-            self.threads[i] = self.threads[from];
-            self.words[i] = self.words[from];
-            self.redos[i] = self.redos[from];
-            i += 1;
-        }
-        self.len = end;
-        self
+        close_u64(values, at, from, len);
     }
 }

@@ -1,11 +1,12 @@
-// The undo+redo buffer: first in, first out.
+// The undo+redo buffer: first in, first out. Entries are taken out of it array by array, each array lent by itself.
 use crate::UndoBuffer;
-use crate::least;
-use crate::within;
+use crate::closing::close_u8;
+use crate::closing::close_u16;
+use crate::closing::close_u64;
 ghost use mathlib.Core.Path.{_≡_};
 ghost use mathlib.Core.List.{[]};
-ghost use lib.ListN.{drop};
-ghost use Rattle.parts.specs.Waiting.{undosWaiting, changedWithin};
+ghost use Rattle.parts.specs.Arrays.{closed};
+ghost use Rattle.parts.specs.Waiting.{undosWaiting};
 
 impl UndoBuffer {
     pub fn empty() -> UndoBuffer
@@ -20,24 +21,21 @@ impl UndoBuffer {
         }
     }
 
-    // The k oldest entries taken, or as many as there are: the others move down. It has one way out, so that the buffer is copied less often.
-    pub fn drop_oldest(mut self, k: usize) -> UndoBuffer
-        ensures { λ (r : UndoBuffer). ⌜ undosWaiting r ≡ changedWithin 16 (self .len) (undosWaiting self) (drop k (undosWaiting self)) ⌝ }
+    pub fn close_threads(threads: &mut [u8; 16], at: usize, from: usize, len: usize)
+        ensures { λ _. ⌜ now (threads .exit) ≡ closed at from len (now (threads .entry)) ⌝ }
     {
-        let len = self.len;
-        let there = within(len, 16);
-        let gone = least(k, there);
-        let end = there - gone;
-        let mut i = 0;
-        while i < end {
-            let from = i + gone;
-            self.threads[i] = self.threads[from];
-            self.words[i] = self.words[from];
-            self.undos[i] = self.undos[from];
-            self.redos[i] = self.redos[from];
-            i += 1;
-        }
-        self.len = len - gone;
-        self
+        close_u8(threads, at, from, len);
+    }
+
+    pub fn close_words(words: &mut [u16; 16], at: usize, from: usize, len: usize)
+        ensures { λ _. ⌜ now (words .exit) ≡ closed at from len (now (words .entry)) ⌝ }
+    {
+        close_u16(words, at, from, len);
+    }
+
+    pub fn close_values(values: &mut [u64; 16], at: usize, from: usize, len: usize)
+        ensures { λ _. ⌜ now (values .exit) ≡ closed at from len (now (values .entry)) ⌝ }
+    {
+        close_u64(values, at, from, len);
     }
 }

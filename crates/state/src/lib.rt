@@ -11,16 +11,17 @@ pub use buffers::wrong_lengths;
 pub use ways_out::cut;
 pub use ways_out::lost;
 
-// A state by its fields. `lost` is document 01's "dark". `lines` and the buffers may have places that are not in use.
+// A state by its fields. `lost` is document 01's "dark". `lines` and the buffers may have places that are not in use. Between two large arrays
+// stands a number, so that the compiler copies each by itself (docs/DECISIONS.md).
 pub struct Fields {
     pub lost: bool,
     pub words: u16,
     pub slots: u16,
-    pub head: u64,
-    pub tail: u64,
     pub opened: [bool; 8],
     pub lines: Lines,
+    pub head: u64,
     pub undos: UndoBuffer,
+    pub tail: u64,
     pub redos: RedoBuffer,
 }
 

@@ -1,11 +1,12 @@
 -- A line evicted: the entries that its ULog words add, how many must be logged before, and the state after it.
 use Prim.Native.Nat.{ℕ, _+_, _-_, _*_, _/_, _%_, _≤_, _<_}
 use mathlib.Core.Path.{_≡_, refl, sym, ap, ap₂, subst, _∙_}
-use mathlib.Core.Bool.{false, cond, _&&_}
+use mathlib.Core.Bool.{true, false, cond, _&&_}
 use mathlib.Core.List.{List, [], _++_, map, map-map, append-nil}
 use native.Mathlib.Omega.{arith}
-use lib.Dec.{eqb, ltb}
-use lib.ListN.{length, getD, set, drop, replicate, length-map, length-drop}
+use borrow.Author.Tests.{lt-ltb}
+use lib.Dec.{ltb}
+use lib.ListN.{length, getD, set, drop, replicate, length-map}
 use Rattle.log.specs.declared.Record.{Record}
 use Rattle.log.specs.Region.{numbers}
 use Rattle.log.specs.Holding.{Every}
@@ -16,12 +17,12 @@ use Rattle.parts.specs.declared.Lines.{Lines}
 use Rattle.parts.specs.Listed.{listed}
 use Rattle.parts.specs.Lines.{lineAt, firstLines}
 use Rattle.parts.specs.States.{stateAt, ULog}
-use Rattle.parts.specs.Waiting.{redosWaiting}
-use Rattle.parts.proofs.Waiting.{redoAt}
+use Rattle.parts.specs.Waiting.{waitingOf, redosWaiting}
+use Rattle.parts.proofs.Waiting.{WholeKeys, redoAt}
 use Rattle.parts.proofs.Listed.{length-listed}
 use Rattle.parts.proofs.Oldest.{length-oldest}
 use Rattle.parts.proofs.FirstLines.{WholeLines}
-use Rattle.model.specs.Lists.{keep, upTo}
+use Rattle.model.specs.Lists.{keep}
 use Rattle.model.specs.Machine.{Machine, Memory, lostMachine, freeSlots, withTail, withLines, withRedo, lineOf, statesAs, changed}
 use Rattle.model.specs.Plan.{append, planned}
 use Rattle.model.specs.Refusals.{Row, unless, numberOf, common, noRoom}
@@ -29,8 +30,8 @@ use Rattle.model.specs.Steps.{evicted, lacking, redoRecord, redoRecords, redosL
 use Rattle.model.specs.Step.{evict, planOf, stepped}
 use Rattle.model.proofs.LinesInUse.{line-in-use, first-changed}
 use Rattle.model.proofs.Outcomes.{outcome-refused}
-use Rattle.line_walks.specs.Walks.{isULog, ulogEntry, ulogEntries, addedAll}
-use Rattle.line_walks.proofs.ULogEntries.{added-all, entries-there}
+use Rattle.line_walks.specs.Walks.{ulogWords, refilled, wordsIn, valuesIn}
+use Rattle.line_walks.proofs.Refilled.{ulogEntry, entries-refilled}
 use Rattle.line_walks.proofs.WordStates.{withStates, state-put}
 use Rattle.logging.proofs.LineWords.{keep-below}
 use Rattle.logging.proofs.Appending.{Appended}
@@ -41,13 +42,13 @@ use Rattle.steps.proofs.Appending.{room, append-done, append-cut}
 use Rattle.steps.proofs.LineRows.{lineRows, none-refuse, LineFit, line-fit, common-narrow, lineNumber, line-number}
 
 -- no word is ULog where all are Clean
-clean-keep : keep (λ j. eqb (stateAt 0 j) ULog) (upTo 8) ≡ []
+clean-keep : ulogWords 0 ≡ []
 unfolding keep stateAt listed
 clean-keep = refl
 
 -- how many of so many redo entries lack places, by the states of the 64 lines
 abbrev pub lackingIn : ℕ → List ℕ → ℕ → ℕ
-lackingIn len states i = len + length (keep (λ j. eqb (stateAt (getD states (i % 64) 0) j) ULog) (upTo 8)) - 32
+lackingIn len states i = len + length (ulogWords (getD states (i % 64) 0)) - 32
 
 -- the states of line i replaced in place
 states-lines : (n : ℕ) (ls : Lines) (i k : ℕ) (ss : List ℕ) → WholeLines ls → n ≤ 64 → ss ≡ set (ls .states) i k
@@ -75,52 +76,54 @@ module _ (s : Fields) (i : ℕ) (below : i < s .words / 8) where
   line = lineAt (s .lines) i
 
   -- the entries that it adds
-  evicted-by : (mem : Memory) → evicted (view s) mem i ≡ map (ulogEntry line (mem .working) (8 * i)) (keep (isULog line) (upTo 8))
+  evicted-by : (mem : Memory) → evicted (view s) mem i ≡ map (ulogEntry (line .holder) (mem .working) i) (ulogWords (line .states))
   unfolding evicted
   evicted-by mem =
       ap (map (λ w. record { thread = lineOf (view s .lines) i .holder; word = w; undo = 0; redo = getD (mem .working) w 0 }))
       (keep-below (s .words / 8) (s .lines) i below ULog)
       ∙ map-map (λ w. record { thread = lineOf (view s .lines) i .holder; word = w; undo = 0; redo = getD (mem .working) w 0 })
-      (λ j. 8 * i + j) (keep (isULog line) (upTo 8))
-      ∙ ap (λ (l : Line). map (ulogEntry l (mem .working) (8 * i)) (keep (isULog line) (upTo 8)))
+      (λ j. 8 * i + j) (ulogWords (line .states))
+      ∙ ap (λ (l : Line). map (ulogEntry (l .holder) (mem .working) i) (ulogWords (line .states)))
       (sym (line-in-use (s .words / 8) (s .lines) i below))
 
   -- how many they are
-  count-evicted : (mem : Memory) → length (evicted (view s) mem i) ≡ length (keep (isULog line) (upTo 8))
+  count-evicted : (mem : Memory) → length (evicted (view s) mem i) ≡ length (ulogWords (line .states))
   count-evicted mem =
-      ap length (evicted-by mem) ∙ length-map (keep (isULog line) (upTo 8)) (ulogEntry line (mem .working) (8 * i))
+      ap length (evicted-by mem) ∙ length-map (ulogWords (line .states)) (ulogEntry (line .holder) (mem .working) i)
 
   -- how many entries must be logged
   pub lacking-by : (mem : Memory) (count : ℕ) → s .words ≤ 512 → count ≡ lackingIn (s .redos .len) (s .lines .states) i → count ≡ lacking (view s) mem i
   lacking-by mem count narrow e =
       let same : i % 64 ≡ i = omega arith in
-      let f : count ≡ s .redos .len + length (keep (isULog line) (upTo 8)) - 32 = rw same at e in
+      let f : count ≡ s .redos .len + length (ulogWords (line .states)) - 32 = rw same at e in
       let a = length-listed (s .redos .len) (redoAt (s .redos)) in
       let b = count-evicted mem in
       omega arith
 
   module _ (mem : Memory) (count : ℕ) (lacks : count ≡ lacking (view s) mem i) (within : count ≤ s .redos .len) where
-    -- where so many are logged, there is a place for each new entry, and each is put last
-    pub entries-added : (grown : RedoBuffer) → s .words ≤ 512 → length (mem .working) ≡ s .words
-        → redosWaiting grown ≡ addedAll (ulogEntries line (mem .working) (8 * i)) (drop count (redosWaiting (s .redos)))
-        → redosWaiting grown ≡ drop count (redosWaiting (s .redos)) ++ evicted (view s) mem i
-    entries-added grown narrow sizes more =
-        let new : List Entry = map (ulogEntry line (mem .working) (8 * i)) (keep (isULog line) (upTo 8)) in
-        let rest : List Entry = drop count (redosWaiting (s .redos)) in
+    -- where so many are logged, there is a place for each new entry, and each is put last: k entries, and the arrays of the buffer
+    pub entries-added : (k : ℕ) (ts ws rs : List ℕ) → s .words ≤ 512 → length (mem .working) ≡ s .words → s .redos .len ≤ 32
+        → WholeKeys 32 (s .redos .threads) (s .redos .words) (s .redos .redos) → k ≡ length (ulogWords (line .states))
+        → ts ≡ refilled (λ _. line .holder) (s .redos .len) count (line .states) (s .redos .threads)
+        → ws ≡ cond (ltb i 64) (refilled (wordsIn i) (s .redos .len) count (line .states) (s .redos .words)) (s .redos .words)
+        → rs ≡ cond (ltb i (length (mem .working) / 8)) (refilled (valuesIn (mem .working) i) (s .redos .len) count (line .states) (s .redos .redos))
+        (s .redos .redos)
+        → waitingOf (s .redos .len - count + k) ts ws [] rs ≡ drop count (redosWaiting (s .redos)) ++ evicted (view s) mem i
+    entries-added k ts ws rs narrow sizes few keys counted threads words redos =
         let a = length-listed (s .redos .len) (redoAt (s .redos)) in
         let b = count-evicted mem in
-        let d = length-drop count (redosWaiting (s .redos)) in
-        let f = length-map (keep (isULog line) (upTo 8)) (ulogEntry line (mem .working) (8 * i)) in
-        more
-        ∙ ap (λ (xs : List Entry). addedAll xs rest) (entries-there line (mem .working) (8 * i) (omega arith) (omega arith))
-        ∙ added-all new rest (omega arith)
-        ∙ ap (λ (xs : List Entry). rest ++ xs) (sym (evicted-by mem))
+        let t : ltb i 64 ≡ true = lt-ltb i 64 (omega arith) in
+        let u : ltb i (length (mem .working) / 8) ≡ true = rw sizes (lt-ltb i (s .words / 8) below) in
+        rw (threads, words, redos, t, u, counted)
+        (entries-refilled (s .redos .len) count (line .states) (line .holder) i (mem .working) (s .redos .threads) (s .redos .words) (s .redos .redos) keys
+        within few (omega arith)
+        ∙ ap (λ (xs : List Entry). drop count (redosWaiting (s .redos)) ++ xs) (sym (evicted-by mem)))
 
     -- of a line whose words are all Clean there is none, and none is logged
     pub entries-none : getD (s .lines .states) i 0 ≡ 0 → s .redos .len ≤ 32
         → redosWaiting (s .redos) ≡ drop count (redosWaiting (s .redos)) ++ evicted (view s) mem i
     entries-none clean few =
-        let none : keep (isULog line) (upTo 8) ≡ [] = rw clean clean-keep in
+        let none : ulogWords (line .states) ≡ [] = rw clean clean-keep in
         let new : evicted (view s) mem i ≡ [] = rw (evicted-by mem, none) in
         let a = length-listed (s .redos .len) (redoAt (s .redos)) in
         let b : length (evicted (view s) mem i) ≡ 0 = rw new in

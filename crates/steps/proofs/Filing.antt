@@ -1,12 +1,12 @@
 -- A store's parts: the entry that is logged first, what is filed by the word's state, and the state after them.
-use Prim.Native.Nat.{ℕ, zero, suc, _+_, _-_, _/_, _≤_, _<_}
+use Prim.Native.Nat.{ℕ, zero, suc, _+_, _-_, _/_, _≤_, _<_, min}
 use mathlib.Core.Path.{_≡_, refl, sym, _∙_, ap}
 use mathlib.Core.Bool.{Bool, true, false, cond, _&&_, not}
 use mathlib.Core.List.{List, [], _∷_, _++_}
 use native.Mathlib.Omega.{arith}
 use borrow.Author.Tests.{leb-true, leb-false, ne-eqb}
 use lib.Dec.{eqb, leb}
-use lib.ListN.{length, getD, set, length-drop, length-set}
+use lib.ListN.{length, getD, set, length-set}
 use lib.Seq.{set-getD}
 use Rattle.parts.specs.declared.Entry.{Entry}
 use Rattle.parts.specs.declared.UndoBuffer.{UndoBuffer}
@@ -15,10 +15,11 @@ use Rattle.parts.specs.declared.Line.{Line}
 use Rattle.parts.specs.declared.Lines.{Lines}
 use Rattle.parts.specs.Lines.{lineAt, firstLines, putLine}
 use Rattle.parts.specs.States.{Clean, Dirty, ULog}
-use Rattle.parts.specs.Listed.{listed}
-use Rattle.parts.specs.Waiting.{waitingOf, undosWaiting, redosWaiting, discarded, amended}
+use Rattle.parts.specs.Arrays.{closed}
+use Rattle.parts.specs.Waiting.{waitingOf, undosWaiting, redosWaiting, placeOf, discarded, amended}
+use Rattle.parts.proofs.Closed.{redos-discarded}
 use Rattle.parts.proofs.Listed.{length-listed}
-use Rattle.parts.proofs.Waiting.{undoAt, redoAt, WholeBuffer, waiting-added}
+use Rattle.parts.proofs.Waiting.{undoAt, redoAt, waiting-added}
 use Rattle.parts.proofs.FirstLines.{WholeLines}
 use Rattle.model.proofs.LinesInUse.{first-changed}
 use Rattle.line_walks.proofs.WordStates.{withStates, replaced, first-marked}
@@ -27,6 +28,7 @@ use Rattle.model.specs.Steps.{undosLogged, storeLogs, storedAs, storeNext}
 use Rattle.model.proofs.Lists.{both-right}
 use Rattle.state.specs.declared.Fields.{Fields}
 use Rattle.state.specs.View.{view}
+use Rattle.steps.proofs.LoggingOldest.{WholeUndos, WholeRedos}
 
 -- how many entries are logged first, by the code's test
 pub logs-by : (m : Machine) (w : ℕ) (same t : Bool) (k n : ℕ) → k ≡ stateIn (m .lines) w → n ≡ length (m .undoRedo)
@@ -79,27 +81,10 @@ undos-length b = length-listed (b .len) (undoAt b)
 pub redos-length : (b : RedoBuffer) → length (redosWaiting b) ≡ b .len
 redos-length b = length-listed (b .len) (redoAt b)
 
--- there are 16 places for each field of an undo+redo buffer
-abbrev pub WholeUndos : UndoBuffer → Type 0
-WholeUndos b = WholeBuffer 16 (b .threads) (b .words) (b .undos) (b .redos)
-
 -- where no entry is logged, nothing changes
 pub none-logged : (m : Machine) (k : ℕ) → k ≡ 0 → m ≡ undosLogged k m
 unfolding allLogged
 none-logged m k e = rw e (let h : m .tail ≡ m .tail + 0 = omega arith in ap (λ (n : ℕ). withTail n m) h)
-
--- a state whose oldest undo+redo entries were logged has that many fewer of them, and as many redo entries
-pub logged-limits : (r s : Fields) (ls : List Line) (k : ℕ) → view r ≡ undosLogged k (withLines ls (view s))
-    → (r .undos .len ≡ s .undos .len - k) × ((r .redos .len ≡ s .redos .len) × (r .words ≡ s .words))
-logged-limits r s ls k e =
-    let u : r .undos .len ≡ s .undos .len - k =
-    sym (undos-length (r .undos))
-    ∙ ap (λ (m : Machine). length (m .undoRedo)) e
-    ∙ length-drop k (undosWaiting (s .undos))
-    ∙ ap (λ (n : ℕ). n - k) (undos-length (s .undos)) in
-    let d : r .redos .len ≡ s .redos .len =
-    sym (redos-length (r .redos)) ∙ ap (λ (m : Machine). length (m .redo)) e ∙ redos-length (s .redos) in
-    (u, (d, ap (λ (m : Machine). m .words) e))
 
 -- what is filed by the word's state: a first entry, another redo, another state, or nothing
 module _ (m : Machine) (e : Entry) (k : ℕ) where
@@ -144,10 +129,19 @@ filed-first r e k ts ws us vs states ds lines undos short few clean t w u v mark
     (rw (t, w, u, v)
     (waiting-added (r .undos .threads) (r .undos .words) (r .undos .undos) (r .undos .redos) 16 (r .undos .len) e undos short)) kept
 
--- where no entry waits, none is discarded
-pub discarded-none : (w : ℕ) (b : RedoBuffer) → b .len ≡ 0 → redosWaiting b ≡ discarded w (redosWaiting b)
-unfolding listed discarded
-discarded-none w b e = rw e refl
+-- the place that was looked for among as many words as a buffer has entries
+pub place-found : (w len n r : ℕ) (ts ws us rs : List ℕ) → length ws ≡ n → len ≤ n
+    → r ≡ placeOf w (waitingOf (min len (length ws)) ts ws us rs) → r ≡ placeOf w (waitingOf len ts ws us rs)
+place-found w len n r ts ws us rs size short e =
+    let m : min len (length ws) ≡ len = omega arith in
+    rw m at e
+
+-- the redo entries without that of a word, the arrays of the buffer being closed at its place
+pub redos-kept : (b : RedoBuffer) (w at : ℕ) (ts ws vs : List ℕ) → WholeRedos b → b .len ≤ 32 → at < b .len → at ≡ placeOf w (redosWaiting b)
+    → ts ≡ closed at (at + 1) (b .len) (b .threads) → ws ≡ closed at (at + 1) (b .len) (b .words) → vs ≡ closed at (at + 1) (b .len) (b .redos)
+    → waitingOf (b .len - 1) ts ws [] vs ≡ discarded w (redosWaiting b)
+redos-kept b w at ts ws vs keys short below e t x v =
+    rw (t, x, v) (redos-discarded 32 (b .len) (b .threads) (b .words) (b .redos) short keys w at below e)
 
 -- the lines whose line i is claimed by thread t, the arrays being changed in place
 module _ (n : ℕ) (ls : Lines) (i t : ℕ) (hs : List ℕ) (whole : WholeLines ls) (h : n ≤ 64) (held : hs ≡ set (ls .holders) i t) where

@@ -13,3 +13,4 @@ pub mod Filing
 pub mod StoreRows
 pub mod Commits
 pub mod Sound
+pub mod TakesState

@@ -1,5 +1,5 @@
 -- What a step that logs the oldest entry of a buffer hands back, f giving the entry's record. The buffer has n entries, `at` by their places.
-use Prim.Native.Nat.{ℕ, _+_, _/_, _≤_, _<_, min}
+use Prim.Native.Nat.{ℕ, _+_, _-_, _/_, _≤_, _<_, min}
 use mathlib.Core.Path.{_≡_, sym, _∙_}
 use mathlib.Core.Bool.{false, cond, _&&_, false≢true}
 use mathlib.Core.List.{List, [], _∷_, _++_, map}
@@ -15,8 +15,10 @@ use Rattle.parts.specs.declared.RedoBuffer.{RedoBuffer}
 use Rattle.parts.specs.declared.UndoBuffer.{UndoBuffer}
 use Rattle.parts.specs.declared.Lines.{Lines}
 use Rattle.parts.specs.Listed.{listed}
-use Rattle.parts.specs.Waiting.{undosWaiting, changedWithin}
-use Rattle.parts.proofs.Waiting.{undoAt, changed-within}
+use Rattle.parts.specs.Arrays.{closed}
+use Rattle.parts.specs.Waiting.{waitingOf, undosWaiting, redosWaiting}
+use Rattle.parts.proofs.Closed.{undos-dropped, redos-dropped}
+use Rattle.parts.proofs.Waiting.{undoAt, WholeKeys, WholeBuffer}
 use Rattle.parts.proofs.Oldest.{length-oldest}
 use Rattle.parts.proofs.FirstLines.{WholeLines}
 use Rattle.parts.proofs.Listed.{length-listed}
@@ -37,6 +39,13 @@ use Rattle.state.specs.View.{view, shown}
 use Rattle.steps.proofs.Outcome.{width}
 use Rattle.steps.proofs.Refused.{common-fit, refused-then}
 use Rattle.steps.proofs.Appending.{room, append-done, append-cut}
+
+-- there are 16 places for each field of an undo+redo buffer, and 32 of a redo buffer
+abbrev pub WholeUndos : UndoBuffer → Type 0
+WholeUndos b = WholeBuffer 16 (b .threads) (b .words) (b .undos) (b .redos)
+
+abbrev pub WholeRedos : RedoBuffer → Type 0
+WholeRedos b = WholeKeys 32 (b .threads) (b .words) (b .redos)
 
 -- its own rows, with its record, or none
 abbrev pub ownRows : Machine → List Record → List Row
@@ -64,10 +73,18 @@ oldest f n at = map f (take 1 (listed n at))
 pub count-oldest : (f : Entry → Record) (n : ℕ) (at : ℕ → Entry) → length (oldest f n at) ≡ min 1 n
 count-oldest f n at = rw (length-map, length-take, length-listed)
 
--- what waits once the k oldest are dropped
-pub rest-waits : (places k n : ℕ) (at : ℕ → Entry) (rest : List Entry) → n ≤ places
-    → rest ≡ changedWithin places n (listed n at) (drop k (listed n at)) → rest ≡ drop k (listed n at)
-rest-waits places k n at rest short dropped = dropped ∙ sym (changed-within places n (listed n at) (drop k (listed n at)) short)
+-- what waits once the k oldest are dropped, the arrays of the buffer being closed
+module _ (k : ℕ) (ts ws vs : List ℕ) where
+  pub undos-rest : (b : UndoBuffer) (us : List ℕ) → WholeUndos b → k ≤ b .len → b .len ≤ 16 → ts ≡ closed 0 k (b .len) (b .threads)
+      → ws ≡ closed 0 k (b .len) (b .words) → us ≡ closed 0 k (b .len) (b .undos) → vs ≡ closed 0 k (b .len) (b .redos)
+      → waitingOf (b .len - k) ts ws us vs ≡ drop k (undosWaiting b)
+  undos-rest b us whole some short t w u v =
+      rw (t, w, u, v) (undos-dropped 16 k (b .len) (b .threads) (b .words) (b .undos) (b .redos) some short whole)
+
+  pub redos-rest : (b : RedoBuffer) → WholeRedos b → k ≤ b .len → b .len ≤ 32 → ts ≡ closed 0 k (b .len) (b .threads)
+      → ws ≡ closed 0 k (b .len) (b .words) → vs ≡ closed 0 k (b .len) (b .redos) → waitingOf (b .len - k) ts ws [] vs ≡ drop k (redosWaiting b)
+  redos-rest b whole some short t w v =
+      rw (t, w, v) (redos-dropped 32 (b .len) (b .threads) (b .words) (b .redos) short whole k some)
 
 -- the state with one more record, and with other lines and buffers
 abbrev pub oneLogged : Fields → Lines → UndoBuffer → RedoBuffer → Fields
@@ -169,11 +186,9 @@ undosGone s k ss rest =
 -- their words are marked, the others wait, and the tail is past their records
 pub undos-gone : (s : Fields) (k : ℕ) (ss : List ℕ) (rest : UndoBuffer) → WholeLines (s .lines) → length (s .undos .words) ≡ 16
     → k ≤ s .undos .len → s .undos .len ≤ 16 → s .words ≤ 512 → ss ≡ allMarked (take k (s .undos .words)) (s .lines .states)
-    → undosWaiting rest ≡ changedWithin 16 (s .undos .len) (undosWaiting (s .undos)) (drop k (undosWaiting (s .undos)))
-    → view (undosGone s k ss rest) ≡ undosLogged k (view s)
-undos-gone s k ss rest whole places some short narrow marks dropped =
+    → undosWaiting rest ≡ drop k (undosWaiting (s .undos)) → view (undosGone s k ss rest) ≡ undosLogged k (view s)
+undos-gone s k ss rest whole places some short narrow marks left =
     let b = s .undos in
-    let left : undosWaiting rest ≡ drop k (undosWaiting b) = rest-waits 16 k (b .len) (undoAt b) (undosWaiting rest) short dropped in
     let n : length (map undoRedoRecord (take k (undosWaiting b))) ≡ k = length-oldest undoRedoRecord k (b .len) (undoAt b) some in
     let lines = logged-lines b (s .lines) places short whole k (s .words / 8) some (omega arith) in
     rw (left, n, marks, lines)

@@ -1,7 +1,7 @@
 -- A step of the code as a step of the model, and the rows that come before a step's own.
 use Prim.Native.Nat.{ℕ}
 use mathlib.Core.Path.{_≡_}
-use mathlib.Core.Bool.{Bool, not}
+use mathlib.Core.Bool.{Bool, true, false, not}
 use mathlib.Core.List.{List, [], _∷_}
 use Rattle.model.specs.Machine.{Machine, Memory}
 use Rattle.model.specs.Consistent.{consistent}
@@ -22,6 +22,18 @@ stepOf (WriteBack i) = writeBack i
 stepOf (Commit t) = commit t
 stepOf DeleteOldest = deleteOldest
 stepOf Recover = recover
+
+-- "Recover: takes no state", and every other step takes one
+abbrev pub takesState : model.Step → Bool
+takesState (begin t) = true
+takesState (store t w v) = true
+takesState logUndo = true
+takesState logRedo = true
+takesState (evict i) = true
+takesState (writeBack i) = true
+takesState (commit t) = true
+takesState deleteOldest = true
+takesState recover = false
 
 -- Arrays taken out of a state: who has an open transaction, and the holders and states of the lines.
 pub record TakenOut (opened : List Bool) (holders states : List ℕ) (s : Fields) : Type 0 where

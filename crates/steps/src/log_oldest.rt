@@ -15,6 +15,8 @@ use crate::refusals::refused;
 use line_walks::mark_logged;
 use logging::append_redos;
 use logging::append_undos;
+use parts::RedoBuffer;
+use parts::UndoBuffer;
 use state::DONE;
 use state::Fields;
 use state::Made;
@@ -65,9 +67,12 @@ pub fn undo_logged(
     }
     let words = state.undos.words;
     mark_logged(&mut state.lines.states, &words, 1);
-    let undos = state.undos;
-    let rest = undos.drop_oldest(1);
-    state.undos = rest;
+    let len = state.undos.len;
+    UndoBuffer::close_threads(&mut state.undos.threads, 0, 1, len);
+    UndoBuffer::close_words(&mut state.undos.words, 0, 1, len);
+    UndoBuffer::close_values(&mut state.undos.undos, 0, 1, len);
+    UndoBuffer::close_values(&mut state.undos.redos, 0, 1, len);
+    state.undos.len = len - 1;
     state.tail = state.tail + 1;
     Made {
         answer: DONE,
@@ -105,9 +110,11 @@ pub fn redo_logged(
     if supply < 3 {
         return cut(working);
     }
-    let redos = state.redos;
-    let rest = redos.drop_oldest(1);
-    state.redos = rest;
+    let len = state.redos.len;
+    RedoBuffer::close_threads(&mut state.redos.threads, 0, 1, len);
+    RedoBuffer::close_words(&mut state.redos.words, 0, 1, len);
+    RedoBuffer::close_values(&mut state.redos.redos, 0, 1, len);
+    state.redos.len = len - 1;
     state.tail = state.tail + 1;
     Made {
         answer: DONE,

@@ -1,8 +1,8 @@
 // Places of the state's arrays, each array lent by itself.
 ghost use mathlib.Core.Path.{_≡_};
-ghost use Prim.Native.Nat.{_≤_, _<_};
-ghost use lib.ListN.{set};
-ghost use Rattle.parts.specs.Waiting.{undosWaiting, placeOf};
+ghost use Prim.Native.Nat.{_-_, _≤_, _<_};
+ghost use lib.ListN.{getD, set};
+ghost use Rattle.parts.specs.Arrays.{closed};
 use parts::UndoBuffer;
 
 pub fn put_holder(holders: &mut [u8; 64], line: usize, thread: u8)
@@ -26,20 +26,6 @@ pub fn put_states(states: &mut [u16; 64], line: usize, new: u16)
     states[line] = new;
 }
 
-pub fn put_thread(threads: &mut [u8; 16], at: usize, thread: u8)
-    requires { ⌜ at < 16 ⌝ }
-    ensures { λ _. ⌜ now (threads .exit) ≡ set (now (threads .entry)) at thread ⌝ }
-{
-    threads[at] = thread;
-}
-
-pub fn put_word(words: &mut [u16; 16], at: usize, word: u16)
-    requires { ⌜ at < 16 ⌝ }
-    ensures { λ _. ⌜ now (words .exit) ≡ set (now (words .entry)) at word ⌝ }
-{
-    words[at] = word;
-}
-
 pub fn put_value(values: &mut [u64; 16], at: usize, value: u64)
     requires { ⌜ at < 16 ⌝ }
     ensures { λ _. ⌜ now (values .exit) ≡ set (now (values .entry)) at value ⌝ }
@@ -47,17 +33,48 @@ pub fn put_value(values: &mut [u64; 16], at: usize, value: u64)
     values[at] = value;
 }
 
-// The place of the oldest of `len` entries of a word, by the words of a buffer; without one, `len`.
-pub fn find(words: &[u16; 16], len: usize, word: u16) -> usize
-    requires { ⌜ len ≤ 16 ⌝ }
-    ensures { λ r. ⌜ ((b : UndoBuffer) → b .words ≡ now (words .entry) → b .len ≡ len → r ≡ placeOf word (undosWaiting b)) ⌝ }
+// The states of a line, and its holder, by those of all 64.
+pub fn states_at(states: &[u16; 64], line: usize) -> u16
+    requires { ⌜ line < 64 ⌝ }
+    ensures { λ r. ⌜ r ≡ getD (now (states .entry)) line 0 ⌝ }
 {
-    let mut i = 0;
-    while i < len {
-        if words[i] == word {
-            return i;
-        }
-        i += 1;
+    states[line]
+}
+
+pub fn holder_at(holders: &[u8; 64], line: usize) -> u8
+    requires { ⌜ line < 64 ⌝ }
+    ensures { λ r. ⌜ r ≡ getD (now (holders .entry)) line 0 ⌝ }
+{
+    holders[line]
+}
+
+// An entry added to the undo+redo buffer: of `len` entries the `gone` oldest are taken, and its number is put next after the others.
+pub fn push_thread(threads: &mut [u8; 16], len: usize, gone: usize, thread: u8)
+    requires { ⌜ (gone ≤ len) × (len - gone < 16) ⌝ }
+    ensures { λ _. ⌜ now (threads .exit) ≡ set (closed 0 gone len (now (threads .entry))) (len - gone) thread ⌝ }
+{
+    if gone != 0 {
+        UndoBuffer::close_threads(threads, 0, gone, len);
     }
-    i
+    threads[len - gone] = thread;
+}
+
+pub fn push_word(words: &mut [u16; 16], len: usize, gone: usize, word: u16)
+    requires { ⌜ (gone ≤ len) × (len - gone < 16) ⌝ }
+    ensures { λ _. ⌜ now (words .exit) ≡ set (closed 0 gone len (now (words .entry))) (len - gone) word ⌝ }
+{
+    if gone != 0 {
+        UndoBuffer::close_words(words, 0, gone, len);
+    }
+    words[len - gone] = word;
+}
+
+pub fn push_value(values: &mut [u64; 16], len: usize, gone: usize, value: u64)
+    requires { ⌜ (gone ≤ len) × (len - gone < 16) ⌝ }
+    ensures { λ _. ⌜ now (values .exit) ≡ set (closed 0 gone len (now (values .entry))) (len - gone) value ⌝ }
+{
+    if gone != 0 {
+        UndoBuffer::close_values(values, 0, gone, len);
+    }
+    values[len - gone] = value;
 }

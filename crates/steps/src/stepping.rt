@@ -1,10 +1,11 @@
 // A step given as a value: what comes before its own rows, once for all steps, and then the step itself.
 ghost use mathlib.Core.Path.{_≡_};
+ghost use mathlib.Core.Bool.{true};
 ghost use Rattle.model.specs.Consistent.{consistent};
 ghost use Rattle.model.specs.Refusals.{numberOf};
 ghost use Rattle.model.specs.Step.{stepped};
 ghost use Rattle.state.specs.View.{view, memory, shown};
-ghost use Rattle.steps.specs.Steps.{stepOf, early, TakenOut};
+ghost use Rattle.steps.specs.Steps.{stepOf, takesState, early, TakenOut};
 use crate::Step;
 use crate::beginning::begun;
 use crate::committing::committed;
@@ -24,10 +25,20 @@ use state::INCONSISTENT;
 use state::LOST;
 use state::Made;
 
-// The number of the rows that come before a step's own, or 0; `sound` says whether the state is consistent. A recovery has none, and a
-// begin is lent no buffers.
+// Every step but a recovery takes a state.
+fn takes_state(step: Step) -> bool
+    ensures { λ r. ⌜ r ≡ takesState (stepOf step) ⌝ }
+{
+    match step {
+        Step::Recover => false,
+        _ => true,
+    }
+}
+
+// The number of the rows that come before a step's own, or 0; `sound` says whether the state that it takes is consistent. A recovery has
+// none, and a begin is lent no buffers.
 fn unfit(state: Fields, step: Step, sound: bool, home: &[u64], working: &[u64], log: &[u64]) -> u64
-    requires { ⌜ sound ≡ consistent (view state) ⌝ }
+    requires { ⌜ (takesState (stepOf step) ≡ true → sound ≡ consistent (view state)) ⌝ }
     ensures { λ r. ⌜ r ≡ numberOf (early (stepOf step) (view state) (memory (now (home .entry)) (now (working .entry)) (now (log .entry)))) ⌝ }
 {
     match step {
@@ -121,21 +132,22 @@ pub fn make(
     let undo_words = state.undos.words;
     let redo_threads = state.redos.threads;
     let redo_words = state.redos.words;
-    let sound = is_consistent(
-        state.words,
-        state.slots,
-        state.head,
-        state.tail,
-        &opened,
-        &holders,
-        &states,
-        state.undos.len,
-        &undo_threads,
-        &undo_words,
-        state.redos.len,
-        &redo_threads,
-        &redo_words,
-    );
+    let sound = takes_state(step)
+        && is_consistent(
+            state.words,
+            state.slots,
+            state.head,
+            state.tail,
+            &opened,
+            &holders,
+            &states,
+            state.undos.len,
+            &undo_threads,
+            &undo_words,
+            state.redos.len,
+            &redo_threads,
+            &redo_words,
+        );
     let number = unfit(state, step, sound, home, working, log);
     if number != 0 {
         return refused(number, supply, state);

@@ -15,12 +15,12 @@ ghost use Rattle.logging.specs.Progressed.{Stored};
 ghost use Rattle.logging.specs.Records.{undoRecordsOf};
 ghost use Rattle.state.specs.View.{view, memory, shown};
 ghost use Rattle.steps.specs.Steps.{TakenOut};
-use crate::places::find;
+use crate::places::push_thread;
+use crate::places::push_value;
+use crate::places::push_word;
 use crate::places::put_flag;
 use crate::places::put_holder;
-use crate::places::put_thread;
 use crate::places::put_value;
-use crate::places::put_word;
 use crate::refusals::no_room;
 use crate::refusals::refuse;
 use crate::refusals::refused;
@@ -31,7 +31,9 @@ use line_walks::mark_logged;
 use logging::append_undos;
 use parts::Entry;
 use parts::Lines;
+use parts::RedoBuffer;
 use parts::UndoBuffer;
+use parts::find;
 use state::DONE;
 use state::Fields;
 use state::HELD;
@@ -91,25 +93,24 @@ pub fn next_state(mut state: Fields, entry: Entry, count: usize) -> Fields
     put_flag(&mut state.lines.dirty, line, true);
     match kind {
         CLEAN => {
-            if count != 0 {
-                let words = state.undos.words;
-                mark_logged(&mut state.lines.states, &words, count);
-                let undos = state.undos;
-                let rest = undos.drop_oldest(count);
-                state.undos = rest;
-                state.tail = state.tail + count as u64;
-            }
-            let at = state.undos.len;
-            put_thread(&mut state.undos.threads, at, entry.thread);
-            put_word(&mut state.undos.words, at, entry.word);
-            put_value(&mut state.undos.undos, at, entry.undo);
-            put_value(&mut state.undos.redos, at, entry.redo);
-            state.undos.len = at + 1;
+            let waiting = state.undos.len;
+            let words = state.undos.words;
+            mark_logged(&mut state.lines.states, &words, count);
+            push_thread(&mut state.undos.threads, waiting, count, entry.thread);
+            push_word(&mut state.undos.words, waiting, count, entry.word);
+            push_value(&mut state.undos.undos, waiting, count, entry.undo);
+            push_value(&mut state.undos.redos, waiting, count, entry.redo);
+            state.undos.len = waiting - count + 1;
+            state.tail = state.tail + count as u64;
             mark(&mut state.lines.states, entry.word, DIRTY);
-            if state.redos.len != 0 {
-                let redos = state.redos;
-                let kept = redos.discard(entry.word);
-                state.redos = kept;
+            let len = state.redos.len;
+            let old = find(&state.redos.words, len, entry.word);
+            if old < len {
+                let next = old + 1;
+                RedoBuffer::close_threads(&mut state.redos.threads, old, next, len);
+                RedoBuffer::close_words(&mut state.redos.words, old, next, len);
+                RedoBuffer::close_values(&mut state.redos.redos, old, next, len);
+                state.redos.len = len - 1;
             }
         }
         DIRTY => {

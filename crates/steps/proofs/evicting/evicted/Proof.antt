@@ -1,5 +1,5 @@
 -- `evicting::evicted` meets its contract: refused, cut, or done.
-use Prim.Native.Nat.{_≤_, _<_}
+use Prim.Native.Nat.{_+_, _-_, _≤_, _<_}
 use mathlib.Core.Path.{_≡_, sym, ap, _∙_}
 use mathlib.Core.Logic.{⊎-elim}
 use native.Mathlib.Omega.{arith}
@@ -14,6 +14,7 @@ use Rattle.logging.proofs.Guards.{redos-appended}
 use Rattle.state.specs.View.{view, memory}
 use Rattle.steps.proofs.LineRows.{LineFit}
 use Rattle.steps.proofs.Refused.{common-fit}
+use Rattle.steps.proofs.LoggingOldest.{WholeRedos}
 use Rattle.steps.proofs.Eviction.{few-wait, lacking-by, entries-added, entries-none, rows, evict-number, evict-refused, evict-fit, evict-cut, evict-done}
 use borrow.Author.Needs.{needs}
 use Rattle.steps.proofs.evicting.evicted.Statement.{statement}
@@ -28,6 +29,9 @@ fits c = common-fit (view (c .args .t1)) (lent c) (c .pre)
 
 whole-lines : (c : tie.Start) → WholeLines (c .args .t1 .lines)
 whole-lines c = search needs
+
+whole-redos : (c : tie.Start) → WholeRedos (c .args .t1 .redos)
+whole-redos c = search needs
 
 few : (c : tie.Start) → c .args .t1 .redos .len ≤ 32
 few c = few-wait (c .args .t1 .redos) (fits c .clauses .redoSize)
@@ -133,34 +137,49 @@ returns-2 c =
     (log .last .0) (log .result) (redos-appended (count .result) (a .t1 .redos) (few s) (log .ensures))
     (ended .cut .result) (ended .cut .last .0) (ended .before .before .if2 .taken) (ended .cut .ensures .0) (ended .cut .ensures .1)
 
--- where the line is read, and before
-abbrev logged : tie.After-line-at-arg3 → tie.After-append-redos
-logged c = c .before .before .before .before .before .before .before
+-- where the line's states are read, and before
+abbrev logged : tie.After-states-at-arg → tie.After-append-redos
+logged c = c .before .before .before .before .before
 
-abbrev unread : tie.After-line-at-arg3 → tie.Else1
+abbrev unread : tie.After-states-at-arg → tie.Else1
 unread c = unrefused (logged c)
 
-line-at-requires : tie.Need-line-at-requires
-line-at-requires c κs = place (unread c)
+states-at-requires : tie.Need-states-at-requires
+states-at-requires c κs = place (unread c)
 
-mul-refill : tie.Need-mul-refill
-mul-refill c =
-    let h = place (unread (c .before .before .before .before .before)) in
-    omega arith
+holder-at-requires : tie.Need-holder-at-requires
+holder-at-requires c κs = place (unread (c .before .before .before .before))
 
-refill-requires : tie.Need-refill-requires
-refill-requires c κs = few (began (unread (c .before .before .before .before .before)))
+refill-threads-requires : tie.Need-refill-threads-requires
+refill-threads-requires c κs = search needs
 
-put-states-requires : tie.Need-put-states-requires
-put-states-requires c κs = place (unread (c .before .before .before .before .before .before .before))
+refill-words-requires : tie.Need-refill-words-requires
+refill-words-requires c κs = search needs
 
--- the tail is as it was
-same-tail : (c : tie.Joined3) → c .if3 .state .tail ≡ began (unread (c .before .before .before)) .args .t1 .tail
-same-tail c = ⊎-elim (λ w. rw (w .6)) (λ w. rw (w .1)) (c .if3 .came)
+refill-redos-requires : tie.Need-refill-redos-requires
+refill-redos-requires c κs = search needs
+
+sub-state : tie.Need-sub-state
+sub-state c = taken (unread (c .before .before .before .before .before .before .before .before .before .before .before .before)) .lacking .ensures .0
+
+count-ulog-requires : tie.Need-count-ulog-requires
+count-ulog-requires c κs = search needs
 
 add-state : tie.Need-add-state
 add-state c =
-    let e = unread (c .before .before .before) in
+    let h = few (began (unread (c .before .before .before .before .before .before .before .before .before .before .before .before .before))) in
+    omega (arith, c .count-ulog .ensures .0)
+
+put-states-requires : tie.Need-put-states-requires
+put-states-requires c κs = place (unread (c .before .before .before .before .before .before .before .before .before .before .before .before .before .before .before))
+
+-- the tail is as it was
+same-tail : (c : tie.Joined3) → c .if3 .state .tail ≡ began (unread (c .before .before)) .args .t1 .tail
+same-tail c = ⊎-elim (λ w. rw (w .15)) (λ w. rw (w .1)) (c .if3 .came)
+
+add-state-2 : tie.Need-add-state-2
+add-state-2 c =
+    let e = unread (c .before .before) in
     let t = same-tail c in
     let f = passed e .fits .clauses .tail in
     let h = few (began e) in
@@ -172,33 +191,47 @@ same-length-3 c = search needs
 -- a line whose words are all Clean stays, and nothing is logged for it
 returns-3 : tie.Need-returns-3
 returns-3 c =
-    let read = c .before .before in
+    let read = c .before in
     let log = logged (read .before) .append-redos in
     let e = unread (read .before) in
     let s = began e in
     let a = s .args in
     let f = passed e in
     let count = taken e .lacking in
+    let states = read .states-at .ensures in
     let done = evict-done (a .line) (a .supply) (a .t1) (lent s) (e .before .line-refusal .result) (number (e .before)) (e .if1 .left)
     (count .result) (lacks e) (count .ensures .0)
     (log .last .0) (log .result) (redos-appended (count .result) (a .t1 .redos) (few s) (log .ensures))
-    (read .before .before .before .before .before .if2 .left) (whole-lines s) in
+    (read .before .before .before .if2 .left) (whole-lines s) in
     ⊎-elim
     (λ w.
-    let more = w .3 .ensures in
-    rw (w .6)
-    (done (w .3 .result) (w .5 .last .0)
-    (entries-added (a .t1) (a .line) (f .below) (lent s) (count .result) (lacks e) (count .ensures .0) (w .3 .result) (f .narrow) (f .fits .working)
-    (rw (read .line-at .ensures) at more))
-    (w .5 .ensures)))
+    let keys = whole-redos s in
+    let holder = w .3 .ensures in
+    let threads = w .5 .ensures (keys .threads) in
+    let words = w .7 .ensures (keys .words) in
+    let redos = w .10 .ensures (keys .redos) in
+    let added = w .11 .ensures .1 in
+    rw (w .15)
+    (done
+    (record {
+      redos = w .10 .last .0;
+      len = a .t1 .redos .len - count .result + w .11 .result;
+      threads = w .5 .last .0;
+      words = w .7 .last .0;
+    })
+    (w .14 .last .0)
+    (entries-added (a .t1) (a .line) (f .below) (lent s) (count .result) (lacks e) (count .ensures .0) (w .11 .result) (w .5 .last .0) (w .7 .last .0)
+    (w .10 .last .0) (f .narrow) (f .fits .working) (few s) keys (rw states at added) (rw (holder, states) at threads) (rw states at words)
+    (rw states at redos))
+    (w .14 .ensures)))
     (λ w.
-    let states = a .t1 .lines .states in
+    let all = a .t1 .lines .states in
     let left = w .0 .left in
-    let clean : getD states (a .line) 0 ≡ 0 = rw (read .line-at .ensures) at left in
+    let clean : getD all (a .line) 0 ≡ 0 = rw states at left in
     rw (w .1)
-    (done (a .t1 .redos) states
+    (done (a .t1 .redos) all
     (entries-none (a .t1) (a .line) (f .below) (lent s) (count .result) (lacks e) (count .ensures .0) clean (few s))
-    (sym (set-getD states (a .line) 0) ∙ ap (set states (a .line)) clean)))
+    (sym (set-getD all (a .line) 0) ∙ ap (set all (a .line)) clean)))
     (c .if3 .came)
 
 pub evicted-spec : {M : Type 1} → statement M
@@ -216,10 +249,15 @@ evicted-spec =
     same-length
     same-length-2
     returns-2
-    line-at-requires
-    mul-refill
-    refill-requires
-    put-states-requires
+    states-at-requires
+    holder-at-requires
+    refill-threads-requires
+    refill-words-requires
+    refill-redos-requires
+    sub-state
+    count-ulog-requires
     add-state
+    put-states-requires
+    add-state-2
     same-length-3
     returns-3)

@@ -1,10 +1,12 @@
 -- `redo_logged` meets its contract: refused, cut, or done with the oldest redo entry logged.
 use mathlib.Core.Path.{_≡_, refl}
 use mathlib.Core.List.{List, _++_, map}
+use Prim.Native.Nat.{_-_}
 use native.Mathlib.Omega.{arith}
 use borrow.Author.Needs.{needs}
 use lib.ListN.{drop}
 use Rattle.log.specs.declared.Record.{Record}
+use Rattle.parts.specs.declared.RedoBuffer.{RedoBuffer}
 use Rattle.parts.specs.Waiting.{redosWaiting}
 use Rattle.parts.proofs.Waiting.{redoAt}
 use Rattle.model.specs.Machine.{Memory}
@@ -15,7 +17,7 @@ use Rattle.model.specs.Step.{logRedo, planOf}
 use Rattle.logging.proofs.Guards.{redos-appended}
 use Rattle.state.specs.declared.Fields.{Fields}
 use Rattle.state.specs.View.{view, memory}
-use Rattle.steps.proofs.LoggingOldest.{ownRows, oldest, count-oldest, rest-waits, oneLogged, in-log, Ready, ready}
+use Rattle.steps.proofs.LoggingOldest.{WholeRedos, ownRows, oldest, count-oldest, redos-rest, oneLogged, in-log, Ready, ready}
 use Rattle.steps.proofs.LoggingOldest.{oldest-refused, oldest-cut, oldest-done}
 use Rattle.steps.proofs.log_oldest.redo_logged.Statement.{statement}
 use Rattle.steps.proofs.log_oldest.redo_logged.Tie as tie
@@ -37,6 +39,10 @@ start c = c .before .before .before .before
 
 abbrev passed : tie.After-append-redos → tie.Else1
 passed c = c .before .before .before .before .before .before
+
+-- the arrays of the buffer have their places
+whole-redos : (c : tie.Start) → WholeRedos (c .args .t1 .redos)
+whole-redos c = search needs
 
 -- the number is that of its own rows
 number : (c : tie.After-refusal) → let s = start c .args .t1 in c .refusal .result ≡ numberOf (ownRows (view s) (records s))
@@ -99,12 +105,23 @@ returns-2 c =
     (e .last .0) (e .result) (ended .before .before .if2 .taken) (redos-appended 1 (s .redos) (known begun .short) (e .ensures))
     (d .ensures .0) (d .ensures .1)
 
-drop-oldest-requires : tie.Need-drop-oldest-requires
-drop-oldest-requires c κs = search needs
+close-threads-requires : tie.Need-close-threads-requires
+close-threads-requires c κs = search needs
+
+close-words-requires : tie.Need-close-words-requires
+close-words-requires c κs = search needs
+
+close-values-requires : tie.Need-close-values-requires
+close-values-requires c κs = search needs
+
+sub-state : tie.Need-sub-state
+sub-state c =
+    let k = known (passed (c .before .before .before .before .before .before .before .before .before)) in
+    omega (arith, k .some)
 
 add-state : tie.Need-add-state
 add-state c =
-    let k = known (passed (c .before .before .before .before .before)) in
+    let k = known (passed (c .before .before .before .before .before .before .before .before .before .before)) in
     omega (arith, k .fits .clauses .tail)
 
 same-length-3 : tie.Need-same-length-3
@@ -112,8 +129,10 @@ same-length-3 c = search needs
 
 returns-3 : tie.Need-returns-3
 returns-3 c =
-    let taken = c .before .before in
-    let dropped = c .drop-oldest in
+    let threads = c .before .before .before .before .before .close-threads in
+    let words = c .before .before .before .close-words in
+    let values = c .before .close-values in
+    let taken = c .before .before .before .before .before .before .before in
     let appended = taken .before .before .before in
     let begun = passed appended in
     let a = start (begun .before) .args in
@@ -121,9 +140,11 @@ returns-3 c =
     let mem = memory (a .home .now) (a .working .now) (a .log .now) in
     let e = appended .append-redos in
     let k = known begun in
-    let rest : redosWaiting (dropped .result) ≡ drop 1 (redosWaiting (s .redos)) =
-    rest-waits 32 1 (s .redos .len) (redoAt (s .redos)) (redosWaiting (dropped .result)) (k .short) (dropped .ensures) in
-    let next = oneLogged s (s .lines) (s .undos) (dropped .result) in
+    let left : RedoBuffer = record { redos = values .last .0; len = s .redos .len - 1; threads = threads .last .0; words = words .last .0 } in
+    let rest : redosWaiting left ≡ drop 1 (redosWaiting (s .redos)) =
+    redos-rest 1 (threads .last .0) (words .last .0) (values .last .0) (s .redos) (whole-redos (start (begun .before))) (k .some) (k .short)
+    (threads .ensures) (words .ensures) (values .ensures) in
+    let next = oneLogged s (s .lines) (s .undos) left in
     let same : view next ≡ redosLogged 1 (view s) = rw (rest, k .one) in
     oldest-done logRedo redoRecord 32 (s .redos .len) (redoAt (s .redos)) (a .supply) (view s) mem (redosLogged 1 (view s)) (plan s mem) k
     (record { answer = 0; left = e .result; state = next }) (e .last .0) (taken .if2 .left)
@@ -141,7 +162,10 @@ redo-logged-spec =
     same-length
     same-length-2
     returns-2
-    drop-oldest-requires
+    close-threads-requires
+    close-words-requires
+    close-values-requires
+    sub-state
     add-state
     same-length-3
     returns-3)

@@ -1,10 +1,13 @@
 -- `undo_logged` meets its contract: refused, cut, or done with the oldest undo+redo entry logged.
 use mathlib.Core.Path.{_≡_, refl}
 use mathlib.Core.List.{List, _++_, map}
+use Prim.Native.Nat.{_-_}
 use native.Mathlib.Omega.{arith}
 use borrow.Author.Needs.{needs}
-use lib.ListN.{length}
+use lib.ListN.{drop}
 use Rattle.log.specs.declared.Record.{Record}
+use Rattle.parts.specs.declared.UndoBuffer.{UndoBuffer}
+use Rattle.parts.specs.Waiting.{undosWaiting}
 use Rattle.parts.proofs.FirstLines.{WholeLines}
 use Rattle.parts.proofs.Waiting.{undoAt}
 use Rattle.model.specs.Machine.{Memory}
@@ -15,7 +18,7 @@ use Rattle.model.specs.Step.{logUndo, planOf}
 use Rattle.logging.proofs.Guards.{undos-appended}
 use Rattle.state.specs.declared.Fields.{Fields}
 use Rattle.state.specs.View.{view, memory}
-use Rattle.steps.proofs.LoggingOldest.{ownRows, oldest, count-oldest, undosGone, undos-gone, in-log, Ready, ready}
+use Rattle.steps.proofs.LoggingOldest.{WholeUndos, ownRows, oldest, count-oldest, undosGone, undos-gone, undos-rest, in-log, Ready, ready}
 use Rattle.steps.proofs.LoggingOldest.{oldest-refused, oldest-cut, oldest-done}
 use Rattle.steps.proofs.log_oldest.undo_logged.Statement.{statement}
 use Rattle.steps.proofs.log_oldest.undo_logged.Tie as tie
@@ -42,8 +45,8 @@ passed c = c .before .before .before .before .before .before .before
 whole-lines : (c : tie.Start) → WholeLines (c .args .t1 .lines)
 whole-lines c = search needs
 
-places : (c : tie.Start) → length (c .args .t1 .undos .words) ≡ 16
-places c = search needs
+whole-undos : (c : tie.Start) → WholeUndos (c .args .t1 .undos)
+whole-undos c = search needs
 
 -- the number is that of its own rows
 number : (c : tie.After-refusal) → let s = start c .args .t1 in c .refusal .result ≡ numberOf (ownRows (view s) (records s))
@@ -109,12 +112,26 @@ returns-2 c =
 mark-logged-requires : tie.Need-mark-logged-requires
 mark-logged-requires c κs = search needs
 
-drop-oldest-requires : tie.Need-drop-oldest-requires
-drop-oldest-requires c κs = search needs
+close-threads-requires : tie.Need-close-threads-requires
+close-threads-requires c κs = search needs
+
+close-words-requires : tie.Need-close-words-requires
+close-words-requires c κs = search needs
+
+close-values-requires : tie.Need-close-values-requires
+close-values-requires c κs = search needs
+
+close-values-requires-2 : tie.Need-close-values-requires-2
+close-values-requires-2 c κs = search needs
+
+sub-state : tie.Need-sub-state
+sub-state c =
+    let k = known (passed (c .before .before .before .before .before .before .before .before .before .before .before .before .before .before .before)) in
+    omega (arith, k .some)
 
 add-state : tie.Need-add-state
 add-state c =
-    let k = known (passed (c .before .before .before .before .before .before .before .before .before)) in
+    let k = known (passed (c .before .before .before .before .before .before .before .before .before .before .before .before .before .before .before .before)) in
     omega (arith, k .fits .clauses .tail)
 
 same-length-3 : tie.Need-same-length-3
@@ -122,9 +139,12 @@ same-length-3 c = search needs
 
 returns-3 : tie.Need-returns-3
 returns-3 c =
-    let dropped = c .drop-oldest in
-    let marked = c .before .before .mark-logged in
-    let taken = c .before .before .before .before .before .before in
+    let redos = c .before .close-values2 in
+    let undos = c .before .before .before .close-values in
+    let words = c .before .before .before .before .before .close-words in
+    let threads = c .before .before .before .before .before .before .before .close-threads in
+    let marked = c .before .before .before .before .before .before .before .before .before .mark-logged in
+    let taken = c .before .before .before .before .before .before .before .before .before .before .before .before .before in
     let appended = taken .before .before .before in
     let begun = passed appended in
     let b = start (begun .before) in
@@ -133,10 +153,20 @@ returns-3 c =
     let mem = memory (a .home .now) (a .working .now) (a .log .now) in
     let e = appended .append-undos in
     let k = known begun in
-    let next = undosGone s 1 (marked .last .0) (dropped .result) in
+    let left : UndoBuffer = record {
+      undos = undos .last .0;
+      redos = redos .last .0;
+      len = s .undos .len - 1;
+      threads = threads .last .0;
+      words = words .last .0;
+    } in
+    let rest : undosWaiting left ≡ drop 1 (undosWaiting (s .undos)) =
+    undos-rest 1 (threads .last .0) (words .last .0) (redos .last .0) (s .undos) (undos .last .0) (whole-undos b) (k .some) (k .short)
+    (threads .ensures) (words .ensures) (undos .ensures) (redos .ensures) in
+    let places = whole-undos b .keys .words in
+    let next = undosGone s 1 (marked .last .0) left in
     let same : view next ≡ undosLogged 1 (view s) =
-    undos-gone s 1 (marked .last .0) (dropped .result) (whole-lines b) (places b) (k .some) (k .short) (k .narrow)
-    (marked .ensures (whole-lines b .states) (places b)) (dropped .ensures) in
+    undos-gone s 1 (marked .last .0) left (whole-lines b) places (k .some) (k .short) (k .narrow) (marked .ensures (whole-lines b .states) places) rest in
     oldest-done logUndo undoRedoRecord 16 (s .undos .len) (undoAt (s .undos)) (a .supply) (view s) mem (undosLogged 1 (view s)) (plan s mem) k
     (record { answer = 0; left = e .result; state = next }) (e .last .0) (taken .if2 .left)
     (undos-appended 1 (s .undos) (k .short) (e .ensures)) refl same
@@ -154,7 +184,11 @@ undo-logged-spec =
     same-length-2
     returns-2
     mark-logged-requires
-    drop-oldest-requires
+    close-threads-requires
+    close-words-requires
+    close-values-requires
+    close-values-requires-2
+    sub-state
     add-state
     same-length-3
     returns-3)

@@ -1,27 +1,33 @@
 -- `stepping::make` meets its contract: the state is tested once, and the step does the rest.
 use mathlib.Core.Path.{_≡_, refl, sym, _∙_}
+use mathlib.Core.Bool.{true, false≢true}
+use mathlib.Core.Logic.{⊎-elim}
 use borrow.Author.Needs.{needs}
 use Rattle.model.specs.Machine.{Memory}
 use Rattle.model.specs.Consistent.{consistent}
 use Rattle.model.specs.Refusals.{numberOf}
 use Rattle.state.specs.View.{view, memory}
-use Rattle.steps.specs.Steps.{stepOf, early}
+use Rattle.steps.specs.Steps.{stepOf, takesState, early}
 use Rattle.steps.proofs.Early.{early-refused}
 use Rattle.steps.proofs.Sound.{sound-here}
 use Rattle.steps.proofs.stepping.make.Statement.{statement}
 use Rattle.steps.proofs.stepping.make.Tie as tie
 
+takes-state-requires : tie.Need-takes-state-requires
+takes-state-requires c κs = search needs
+
 is-consistent-requires : tie.Need-is-consistent-requires
 is-consistent-requires c κs = search needs
 
 -- where the step began, before the state was tested
-abbrev start : tie.After-is-consistent → tie.Start
-start c =
-    c .before .before .before .before .before .before .before .before .before .before .before .before .before .before .before .before .before .before
+abbrev start : tie.Joined1 → tie.Start
+start c = c .before .before .before .before .before .before .before .before .before .before .before .before
 
--- the state is consistent, or it isn't
-sound : (c : tie.After-is-consistent) → c .is-consistent .result ≡ consistent (view (start c .args .state))
-sound c = c .is-consistent .ensures ∙ sound-here (start c .args .state)
+-- a state that the step takes is consistent, or it isn't
+sound : (c : tie.Joined1) → takesState (stepOf (start c .args .step)) ≡ true → c .if1 .sound ≡ consistent (view (start c .args .state))
+sound c takes =
+    ⊎-elim (λ w. w .9 ∙ w .8 .ensures ∙ sound-here (start c .args .state))
+    (λ w. absurd (false≢true (sym (w .0 .left) ∙ c .before .takes-state .ensures ∙ takes))) (c .if1 .came)
 
 unfit-requires : tie.Need-unfit-requires
 unfit-requires c κs = sound (c .before .before .before)
@@ -54,12 +60,12 @@ returns c =
     let d = c .before .before in
     let a = begun d .args in
     rw (c .refused .ensures)
-    (sym (early-refused (stepOf (a .step)) (a .supply) (view (a .state)) (lent d) (d .unfit .result) (number d) (c .before .if1 .taken)))
+    (sym (early-refused (stepOf (a .step)) (a .supply) (view (a .state)) (lent d) (d .unfit .result) (number d) (c .before .if2 .taken)))
 
 made-requires : tie.Need-made-requires
 made-requires c κs =
     let e = c .before .before .before .before .before .before in
-    (record { isOpened = refl; isHolders = refl; isStates = refl }, sym (number (e .before)) ∙ e .if1 .left)
+    (record { isOpened = refl; isHolders = refl; isStates = refl }, sym (number (e .before)) ∙ e .if2 .left)
 
 same-length-4 : tie.Need-same-length-4
 same-length-4 c = search needs
@@ -77,6 +83,7 @@ pub make-spec : {M : Type 1} → statement M
 make-spec =
     tie.close
     (tie.spec
+    takes-state-requires
     is-consistent-requires
     unfit-requires
     refused-requires

@@ -12,6 +12,7 @@ use Rattle.steps.specs.Steps.{stepOf, early}
 use Rattle.steps.specs.declared.Step.{Step}
 use Rattle.steps.specs.declared.Step.the-variants.{Begin, Store, LogUndo, LogRedo, Evict, WriteBack, Commit, DeleteOldest, Recover}
 use Rattle.steps.proofs.Step.{the-type}
+use Rattle.steps.proofs.TakesState.{takes-one}
 use Rattle.steps.proofs.stepping.unfit.Statement.{statement}
 use Rattle.steps.proofs.stepping.unfit.Tie as tie
 
@@ -49,8 +50,9 @@ common-requires c κs = search needs
 returns : tie.Need-returns
 unfolding numberOf
 returns c =
-    let sound = c .before .before .before .before .before .before .before .pre in
-    rw (c .before .before .enum-told .given .1) (simp (c .refuse2 .ensures, c .before .refuse .ensures, sound))
+    let is = c .before .before .enum-told .given .1 in
+    let sound = c .before .before .before .before .before .before .before .pre (rw is) in
+    rw is (simp (c .refuse2 .ensures, c .before .refuse .ensures, sound))
 
 returns-2 : tie.Need-returns-2
 unfolding numberOf
@@ -59,8 +61,10 @@ returns-2 c = rw (c .enum-told2 .given .1)
 returns-3 : tie.Need-returns-3
 returns-3 c =
     let start = c .before .before .before .before .before in
-    rw (common-early _ (view (start .args .state)) _ (c .before .match .keys3))
-    (c .common .ensures (view (start .args .state)) refl refl refl refl (start .pre))
+    let one = c .before .match .keys3 in
+    rw (common-early _ (view (start .args .state)) _ one)
+    (c .common .ensures (view (start .args .state)) refl refl refl refl
+    (start .pre (takes-one others (start .args .step) (λ one. miss others 8 tt one) one)))
 
 pub unfit-spec : {M : Type 1} → statement M
 unfit-spec =

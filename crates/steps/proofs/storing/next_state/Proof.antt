@@ -1,11 +1,10 @@
 -- `next_state` is the model's state after a store. Assumes nothing.
 use borrow.Author.Needs.{needs}
 use borrow.Author.Tests.{eq-eqb, ne-eqb}
-use Prim.Native.Nat.{_+_, _/_, _≤_, _<_}
-use mathlib.Core.Path.{_≡_, refl, sym, _∙_}
+use Prim.Native.Nat.{ℕ, _+_, _-_, _/_, _≤_, _<_}
+use mathlib.Core.Path.{_≡_, refl}
 use mathlib.Core.Bool.{true, false}
-use mathlib.Core.List.{List}
-use mathlib.Core.Logic.{⊎-elim}
+use mathlib.Core.List.{List, []}
 use native.Mathlib.Omega.{arith}
 use lib.Dec.{eqb}
 use lib.ListN.{getD}
@@ -13,22 +12,23 @@ use Rattle.parts.specs.declared.UndoBuffer.{UndoBuffer}
 use Rattle.parts.specs.declared.Entry.{Entry}
 use Rattle.parts.specs.declared.Lines.{Lines}
 use Rattle.parts.specs.Lines.{firstLines}
+use Rattle.parts.specs.Arrays.{closed}
 use Rattle.parts.specs.Waiting.{undosWaiting, redosWaiting, discarded, amended, placeOf}
 use Rattle.parts.proofs.FirstLines.{WholeLines}
-use Rattle.parts.proofs.Waiting.{undoAt, changed-within}
-use Rattle.parts.proofs.Places.{amended-at, amended-none}
+use Rattle.parts.proofs.Waiting.{undoAt, redoAt}
+use Rattle.parts.proofs.Closed.{undos-dropped, whole-closed}
+use Rattle.parts.proofs.Places.{discarded-none, amended-at, amended-none}
 use Rattle.model.specs.Machine.{Memory, changed, heldBy, dirtyAs, stateIn, withLines, withUndoRedo, withRedo}
 use Rattle.model.specs.Steps.{undosLogged, storeNext}
 use Rattle.state.specs.declared.Fields.{Fields}
 use Rattle.state.specs.View.{view}
 use Rattle.line_walks.proofs.WordStates.{withStates, first-marked, whole-marked}
-use Rattle.steps.proofs.LoggingOldest.{undos-gone}
-use Rattle.steps.proofs.Filing.{logs-most, logs-none, none-logged, logs-room, undos-length, logged-limits, next-same, next-other}
-use Rattle.steps.proofs.Filing.{held-lines, dirty-lines, whole-dirty, WholeUndos, Ready}
-use Rattle.steps.proofs.Filing.{filed-first, filed-dirty, filed-logged, filed-last, discarded-none}
+use Rattle.steps.proofs.LoggingOldest.{WholeUndos, WholeRedos, undosGone, undos-gone}
+use Rattle.steps.proofs.Filing.{logs-most, logs-none, none-logged, logs-room, undos-length, next-same, next-other}
+use Rattle.steps.proofs.Filing.{held-lines, dirty-lines, whole-dirty, place-found, redos-kept, Ready}
+use Rattle.steps.proofs.Filing.{filed-first, filed-dirty, filed-logged, filed-last}
 use Rattle.steps.proofs.storing.next_state.Statement.{statement}
 use Rattle.steps.proofs.storing.next_state.Tie as tie
-use Rattle.steps.proofs.storing.next_state.Lts as lts
 
 -- the arrays of the state have their places
 whole-lines : (c : tie.Start) → WholeLines (c .args .t1 .lines)
@@ -37,8 +37,8 @@ whole-lines c = search needs
 whole-buffer : (c : tie.Start) → WholeUndos (c .args .t1 .undos)
 whole-buffer c = search needs
 
-rest-buffer : (r : UndoBuffer) → lts.r·4 .is .Ok tt r → WholeUndos r
-rest-buffer r ok = search needs
+whole-keys : (c : tie.Start) → WholeRedos (c .args .t1 .redos)
+whole-keys c = search needs
 
 cast-line : tie.Need-cast-line
 cast-line c = search needs
@@ -127,9 +127,6 @@ module _ (c : tie.After-put-flag) where
 mark-logged-requires : tie.Need-mark-logged-requires
 mark-logged-requires c κs = search needs
 
-drop-oldest-requires : tie.Need-drop-oldest-requires
-drop-oldest-requires c κs = search needs
-
 -- at most one entry is logged first, and no more than wait
 few-first : (here : tie.After-put-flag) → (start here .args .count ≤ 1) × (start here .args .count ≤ s here .undos .len)
 few-first here =
@@ -138,85 +135,104 @@ few-first here =
     let count = start here .pre .1 .1 in
     (omega arith, omega arith)
 
-add-state : tie.Need-add-state
-add-state c =
-    let here = c .before .before .before .before .before .before .before .before in
-    let few = few-first here .0 in
-    let p = start here .pre in
-    omega arith
-
 -- room is made for the entry of a Clean word
-ready : (j : tie.Joined2) → Ready (undosLogged (start (j .before .before) .args .count) (view (claimed (j .before .before)))) (j .if2 .state)
-ready j =
-    let here = j .before .before in
-    let p = start here .pre in
-    let wide = whole-claimed here in
-    let places = whole-undos here .keys .words in
-    ⊎-elim
-    (λ w.
-    let marks = w .4 .ensures (wide .states) places in
-    let ss = w .4 .last .0 in
-    rw (w .7)
-    (record {
-      seen = undos-gone (claimed here) (start here .args .count) ss (w .6 .result) wide places (few-first here .1) (omega arith) (omega arith) marks
-          (w .6 .ensures);
-      lines = whole-marked (s here .undos .words) (lines here) ss (start here .args .count) wide marks;
-      undos = rest-buffer (w .6 .result) (w .6 .ok);
-    }))
-    (λ w.
-    rw (w .1)
-    (record {
-      seen = none-logged (view (claimed here)) (start here .args .count) (w .0 .left);
-      lines = wide;
-      undos = whole-undos here;
-    }))
-    (j .if2 .came)
+module _ (c : tie.After-mark-logged) where
+  abbrev here : tie.After-put-flag
+  here = c .before .before .before .before .before
 
-limits : (j : tie.Joined2) → (j .if2 .state .undos .len < 16) × ((j .if2 .state .redos .len ≤ 32) × (j .if2 .state .words ≤ 512))
-limits j =
-    let here = j .before .before in
-    let l = logged-limits (j .if2 .state) (s here) (firstLines (s here .words / 8) (lines here)) (start here .args .count) (ready j .seen) in
-    let p = start here .pre in
-    let k = here .before .before .before .before .before .before .state-of .result in
-    let len = undos-length (s here .undos) in
-    let room = logs-room (view (s here)) (e here .word) (eqb (e here .redo) (e here .undo)) k (start here .args .count)
-    (differs here) (kind here) (j .before .match .keys1) (p .1 .1) (omega arith) in
-    (omega arith, (omega arith, omega arith))
+  abbrev count : ℕ
+  count = start here .args .count
 
-put-thread-requires : tie.Need-put-thread-requires
-put-thread-requires c κs =
-    limits (c .before) .0
+  abbrev old : UndoBuffer
+  old = s here .undos
 
-put-word-requires : tie.Need-put-word-requires
-put-word-requires c κs =
-    limits (c .before .before .before) .0
+  -- the entries that are not logged
+  abbrev rest : UndoBuffer
+  rest =
+      record {
+        undos = closed 0 count (old .len) (old .undos);
+        redos = closed 0 count (old .len) (old .redos);
+        len = old .len - count;
+        threads = closed 0 count (old .len) (old .threads);
+        words = closed 0 count (old .len) (old .words);
+      }
 
-put-value-requires : tie.Need-put-value-requires
-put-value-requires c κs =
-    limits (c .before .before .before .before .before) .0
+  abbrev room : Fields
+  room = undosGone (claimed here) count (c .mark-logged .last .0) rest
 
-put-value-requires-2 : tie.Need-put-value-requires-2
-put-value-requires-2 c κs =
-    limits (c .before .before .before .before .before .before .before) .0
+  ready : Ready (undosLogged count (view (claimed here))) room
+  ready =
+      let p = start here .pre in
+      let wide = whole-claimed here in
+      let whole = whole-undos here in
+      let marks = c .mark-logged .ensures (wide .states) (whole .keys .words) in
+      record {
+        seen = undos-gone (claimed here) count (c .mark-logged .last .0) rest wide (whole .keys .words) (few-first here .1) (omega arith) (omega arith)
+            marks
+            (undos-dropped 16 count (old .len) (old .threads) (old .words) (old .undos) (old .redos) (few-first here .1) (omega arith) whole);
+        lines = whole-marked (old .words) (lines here) (c .mark-logged .last .0) count wide marks;
+        undos = whole-closed 16 0 count (old .len) (old .threads) (old .words) (old .undos) (old .redos) whole;
+      }
+
+  limits : (old .len - count < 16) × ((s here .redos .len ≤ 32) × (s here .words ≤ 512))
+  limits =
+      let p = start here .pre in
+      let k = here .before .before .before .before .before .before .state-of .result in
+      let len = undos-length old in
+      let place = logs-room (view (s here)) (e here .word) (eqb (e here .redo) (e here .undo)) k count
+      (differs here) (kind here) (c .before .before .before .before .match .keys1) (p .1 .1) (omega arith) in
+      (omega arith, (omega arith, omega arith))
+
+push-thread-requires : tie.Need-push-thread-requires
+push-thread-requires c κs = let m = c .before in (few-first (here m) .1, limits m .0)
+
+push-word-requires : tie.Need-push-word-requires
+push-word-requires c κs = let m = c .before .before .before in (few-first (here m) .1, limits m .0)
+
+push-value-requires : tie.Need-push-value-requires
+push-value-requires c κs = let m = c .before .before .before .before .before in (few-first (here m) .1, limits m .0)
+
+push-value-requires-2 : tie.Need-push-value-requires-2
+push-value-requires-2 c κs = let m = c .before .before .before .before .before .before .before in (few-first (here m) .1, limits m .0)
+
+sub-state : tie.Need-sub-state
+sub-state c = few-first (here (c .before .before .before .before .before .before .before .before)) .1
+
+add-state : tie.Need-add-state
+add-state c = let l = limits (c .before .before .before .before .before .before .before .before) .0 in omega arith
 
 add-state-2 : tie.Need-add-state-2
 add-state-2 c =
-    let l = limits (c .before .before .before .before .before .before .before .before) .0 in
-    search needs
+    let m = c .before .before .before .before .before .before .before .before .before in
+    let few = few-first (here m) .0 in
+    let p = start (here m) .pre in
+    omega arith
 
 mark-requires : tie.Need-mark-requires
 mark-requires c κs = search needs
 
-discard-requires : tie.Need-discard-requires
-discard-requires c κs = search needs
-
 find-requires : tie.Need-find-requires
 find-requires c κs = search needs
 
-put-value-requires-3 : tie.Need-put-value-requires-3
-put-value-requires-3 c κs =
-    let p = start (c .before .before .before .before .before .before) .pre in
-    let at = c .before .if4 .taken in
+close-threads-requires : tie.Need-close-threads-requires
+close-threads-requires c κs = search needs
+
+close-words-requires : tie.Need-close-words-requires
+close-words-requires c κs = search needs
+
+close-values-requires : tie.Need-close-values-requires
+close-values-requires c κs = search needs
+
+sub-state-2 : tie.Need-sub-state-2
+sub-state-2 c = search needs
+
+find-requires-2 : tie.Need-find-requires-2
+find-requires-2 c κs = search needs
+
+put-value-requires : tie.Need-put-value-requires
+put-value-requires c κs =
+    let p = start (c .before .before .before .before .before .before .before) .pre in
+    let at = c .before .if3 .taken in
     omega arith
 
 mark-requires-2 : tie.Need-mark-requires-2
@@ -224,64 +240,87 @@ mark-requires-2 c κs = search needs
 
 -- a Clean word has its first entry, and is Dirty
 module _ (c : tie.After-mark) where
-  abbrev made : tie.Joined2
+  abbrev made : tie.After-mark-logged
   made = c .before .before .before .before .before .before .before .before .before .before .before
-
-  abbrev room : Fields
-  room = made .if2 .state
-
-  abbrev here : tie.After-put-flag
-  here = made .before .before
 
   abbrev entries : UndoBuffer
   entries =
       record {
-        len = room .undos .len + 1;
-        threads = c .before .before .before .before .before .before .before .before .before .put-thread .last .0;
-        words = c .before .before .before .before .before .before .before .put-word .last .0;
-        undos = c .before .before .before .before .before .put-value .last .0;
-        redos = c .before .before .before .put-value2 .last .0;
+        undos = c .before .before .before .before .before .push-value .last .0;
+        redos = c .before .before .before .push-value2 .last .0;
+        len = old made .len - count made + 1;
+        threads = c .before .before .before .before .before .before .before .before .before .push-thread .last .0;
+        words = c .before .before .before .before .before .before .before .push-word .last .0;
       }
 
   -- `ds` are the redo entries that remain
-  first-filed : (mem : Memory) → getD (mem .working) (e here .word) 0 ≡ e here .undo → (ds : List Entry)
-      → ds ≡ discarded (e here .word) (redosWaiting (room .redos))
-      → withLines (firstLines (room .words / 8) (withStates (c .mark .last .0) (room .lines))) (withRedo ds (withUndoRedo (undosWaiting entries) (view room)))
-      ≡ storeNext (view (s here)) mem (e here .thread) (e here .word) (e here .redo) (eqb (e here .redo) (e here .undo))
+  first-filed : (mem : Memory) → getD (mem .working) (e (here made) .word) 0 ≡ e (here made) .undo → (ds : List Entry)
+      → ds ≡ discarded (e (here made) .word) (redosWaiting (s (here made) .redos))
+      → withLines (firstLines (s (here made) .words / 8) (withStates (c .mark .last .0) (room made .lines)))
+      (withRedo ds (withUndoRedo (undosWaiting entries) (view (room made))))
+      ≡ storeNext (view (s (here made))) mem (e (here made) .thread) (e (here made) .word) (e (here made) .redo)
+      (eqb (e (here made) .redo) (e (here made) .undo))
   first-filed mem was ds kept =
-      let k = here .before .before .before .before .before .before .state-of .result in
+      let h = here made in
+      let k = h .before .before .before .before .before .before .state-of .result in
       let l = limits made in
-      next-other (view (s here)) mem (e here .thread) (e here .word) (e here .redo) (eqb (e here .redo) (e here .undo))
-      (firstLines (s here .words / 8) (lines here)) (e here .undo) k (start here .args .count)
-      (view room) _ (differs here) (claim here) was (start here .pre .1 .1) (kind here) (ready made .seen)
-      (filed-first room (e here) k (entries .threads) (entries .words) (entries .undos) (entries .redos) (c .mark .last .0) ds
-      (ready made .lines) (ready made .undos) (l .0) (l .1 .1) (made .before .match .keys1)
-      (c .before .before .before .before .before .before .before .before .before .put-thread .ensures)
-      (c .before .before .before .before .before .before .before .put-word .ensures)
-      (c .before .before .before .before .before .put-value .ensures)
-      (c .before .before .before .put-value2 .ensures)
+      next-other (view (s h)) mem (e h .thread) (e h .word) (e h .redo) (eqb (e h .redo) (e h .undo))
+      (firstLines (s h .words / 8) (lines h)) (e h .undo) k (start h .args .count)
+      (view (room made)) _ (differs h) (claim h) was (start h .pre .1 .1) (kind h) (ready made .seen)
+      (filed-first (room made) (e h) k (entries .threads) (entries .words) (entries .undos) (entries .redos) (c .mark .last .0) ds
+      (ready made .lines) (ready made .undos) (l .0) (l .1 .1) (made .before .before .before .before .match .keys1)
+      (c .before .before .before .before .before .before .before .before .before .push-thread .ensures) (c .before .before .before .before .before .before .before .push-word .ensures) (c .before .before .before .before .before .push-value .ensures) (c .before .before .before .push-value2 .ensures)
       (c .mark .ensures (ready made .lines .states)) kept)
+
+-- the place of the word's redo entry was looked for
+module _ (c : tie.After-find) where
+  abbrev filed : tie.After-mark
+  filed = c .before .before .before .before
+
+  abbrev at : tie.After-put-flag
+  at = here (made filed)
+
+  redo-place : c .find .result ≡ placeOf (e at .word) (redosWaiting (s at .redos))
+  redo-place =
+      let d = s at .redos in
+      place-found (e at .word) (d .len) 32 (c .find .result) (d .threads) (d .words) [] (d .redos) (whole-keys (start at) .words) (limits (made filed) .1 .0)
+      (c .find .ensures (d .threads) [] (d .redos))
+
+add-next : tie.Need-add-next
+add-next c =
+    let few = limits (made (filed (c .before))) .1 .0 in
+    let within = c .if2 .taken in
+    omega arith
 
 returns-2 : tie.Need-returns-2
 returns-2 c mem was =
-    let marked = c .before .before .before in
-    let redos = room marked .redos in
-    let few = limits (made marked) .1 .0 in
-    first-filed marked mem was (redosWaiting (c .discard .result))
-    (c .discard .ensures ∙ sym (changed-within 32 (redos .len) (redosWaiting redos) (discarded (e (here marked) .word) (redosWaiting redos)) few))
+    let threads = c .before .before .before .before .before .close-threads in
+    let words = c .before .before .before .close-words in
+    let values = c .before .close-values in
+    let found = c .before .before .before .before .before .before .before .before in
+    let d = s (at found) .redos in
+    first-filed (filed found) mem was _
+    (redos-kept d (e (at found) .word) (found .find .result) (threads .last .0) (words .last .0) (values .last .0) (whole-keys (start (at found)))
+    (limits (made (filed found)) .1 .0) (c .before .before .before .before .before .before .before .if2 .taken) (redo-place found) (threads .ensures) (words .ensures) (values .ensures))
 
 returns-3 : tie.Need-returns-3
 returns-3 c mem was =
-    let redos = room (c .before) .redos in
-    first-filed (c .before) mem was (redosWaiting redos) (discarded-none (e (here (c .before)) .word) redos (c .if3 .left))
+    let found = c .before in
+    let d = s (at found) .redos in
+    first-filed (filed found) mem was (redosWaiting d)
+    (discarded-none (e (at found) .word) (d .len) (redoAt d) (found .find .result) (c .if2 .left) (redo-place found))
 
 -- a Dirty word has an entry already, and the place of its oldest one was looked for
-module _ (c : tie.After-find) where
+module _ (c : tie.After-find2) where
   abbrev known : tie.After-put-flag
-  known = c .before .before .before .before
+  known = c .before .before .before .before .before
 
-  place : c .find .result ≡ placeOf (e known .word) (undosWaiting (s known .undos))
-  place = c .find .ensures (s known .undos) refl refl
+  place : c .find2 .result ≡ placeOf (e known .word) (undosWaiting (s known .undos))
+  place =
+      let d = s known .undos in
+      let p = start known .pre in
+      place-found (e known .word) (d .len) 16 (c .find2 .result) (d .threads) (d .words) (d .undos) (d .redos) (whole-undos known .keys .words)
+      (omega arith) (c .find2 .ensures (d .threads) (d .undos) (d .redos))
 
   -- `us` are the undo+redo entries with its new redo
   dirty-filed : (mem : Memory) → getD (mem .working) (e known .word) 0 ≡ e known .undo → (us : List Entry)
@@ -290,7 +329,7 @@ module _ (c : tie.After-find) where
       ≡ storeNext (view (s known)) mem (e known .thread) (e known .word) (e known .redo) (eqb (e known .redo) (e known .undo))
   dirty-filed mem was us new =
       let k = known .before .before .before .before .before .before .state-of .result in
-      let dirty = c .before .before .before .match .keys2 in
+      let dirty = c .before .before .before .before .match .keys2 in
       next-other (view (s known)) mem (e known .thread) (e known .word) (e known .redo) (eqb (e known .redo) (e known .undo))
       (firstLines (s known .words / 8) (lines known)) (e known .undo) k (start known .args .count)
       (view (claimed known)) _ (differs known) (claim known) was (start known .pre .1 .1) (kind known)
@@ -303,17 +342,17 @@ returns-4 c mem was =
     let p = start (known found) .pre in
     let whole = whole-undos (known found) .keys .redos in
     dirty-filed found mem was _
-    (rw (c .put-value3 .ensures)
-    (amended-at (e (known found) .word) (e (known found) .redo) (b .len) (b .threads) (b .words) (b .undos) (b .redos) (found .find .result)
-    (omega arith) (c .before .before .if4 .taken) (place found)))
+    (rw (c .put-value .ensures)
+    (amended-at (e (known found) .word) (e (known found) .redo) (b .len) (b .threads) (b .words) (b .undos) (b .redos) (found .find2 .result)
+    (omega arith) (c .before .before .if3 .taken) (place found)))
 
 returns-5 : tie.Need-returns-5
 returns-5 c mem was =
     let found = c .before in
     let b = s (known found) .undos in
     dirty-filed found mem was (undosWaiting b)
-    (amended-none (e (known found) .word) (e (known found) .redo) (b .len) (undoAt b) (found .find .result)
-    (c .if4 .left) (place found))
+    (amended-none (e (known found) .word) (e (known found) .redo) (b .len) (undoAt b) (found .find2 .result)
+    (c .if3 .left) (place found))
 
 returns-6 : tie.Need-returns-6
 returns-6 c mem was =
@@ -347,17 +386,22 @@ next-state-spec =
     returns
     put-flag-requires
     mark-logged-requires
-    drop-oldest-requires
+    push-thread-requires
+    push-word-requires
+    push-value-requires
+    push-value-requires-2
+    sub-state
     add-state
-    put-thread-requires
-    put-word-requires
-    put-value-requires
-    put-value-requires-2
     add-state-2
     mark-requires
-    discard-requires
     find-requires
-    put-value-requires-3
+    add-next
+    close-threads-requires
+    close-words-requires
+    close-values-requires
+    sub-state-2
+    find-requires-2
+    put-value-requires
     mark-requires-2
     returns-2
     returns-3

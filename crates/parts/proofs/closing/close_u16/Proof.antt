@@ -1,0 +1,88 @@
+-- `close_u16` meets its contract. Before each turn the elements passed have moved down.
+use Prim.Native.Nat.{_-_, _≤_, min}
+use mathlib.Core.Path.{_≡_, refl}
+use native.Mathlib.Omega.{arith}
+use borrow.Author.Needs.{needs}
+use lib.ListN.{length, length-set}
+use Rattle.parts.specs.Arrays.{movedDown}
+use Rattle.parts.proofs.Closed.{moved-none, moved-more}
+use Rattle.parts.proofs.closing.close_u16.Statement.{statement}
+use Rattle.parts.proofs.closing.close_u16.Tie as tie
+
+abbrev Inv-loop : tie.InvT-loop
+Inv-loop xs₀ at from len gap end i₀ xs i =
+    (from ≤ i) × ((i - from ≤ end - from) × ((length xs ≡ length xs₀) × (xs ≡ movedDown gap from (i - from) xs₀)))
+
+abbrev μ-loop : tie.MeasureT-loop
+μ-loop xs₀ at from len gap end i₀ xs i = end - i
+
+less-requires : tie.Need-less-requires Inv-loop μ-loop
+less-requires c κs = search needs
+
+least-requires : tie.Need-least-requires Inv-loop μ-loop
+least-requires c κs = search needs
+
+loop-holds : tie.Need-loop-holds Inv-loop μ-loop
+loop-holds c =
+    let a = c .before .before .before .args in
+    (omega arith, (omega arith, (refl, moved-none (c .before .less .result) (a .from) (a .xs .now))))
+
+mul-xs : tie.Need-mul-xs Inv-loop μ-loop
+mul-xs c = omega arith
+
+slice-read-xs : tie.Need-slice-read-xs Inv-loop μ-loop
+slice-read-xs c = omega arith
+
+sub-xs : tie.Need-sub-xs Inv-loop μ-loop
+sub-xs c = omega arith
+
+mul-xs-2 : tie.Need-mul-xs-2 Inv-loop μ-loop
+mul-xs-2 c = omega arith
+
+slice-write-xs : tie.Need-slice-write-xs Inv-loop μ-loop
+slice-write-xs c = omega arith
+
+add-i : tie.Need-add-i Inv-loop μ-loop
+add-i c = omega arith
+
+loop-less : tie.Need-loop-less Inv-loop μ-loop
+loop-less c = omega arith
+
+loop-again : tie.Need-loop-again Inv-loop μ-loop
+loop-again c =
+    let l = c .before .before .loop in
+    let a = c .before .before .before .before .before .before .args in
+    let gap = c .before .before .before .before .less .result in
+    let e = l .inv .1 .1 .1 in
+    (omega arith, (omega arith, (simp length-set (l .inv .1 .1 .0), rw e (moved-more gap (a .from) (l .i) (a .xs .now) (l .inv .0)))))
+
+same-length : tie.Need-same-length Inv-loop μ-loop
+same-length c = search needs
+
+returns : tie.Need-returns Inv-loop μ-loop
+returns c =
+    let l = c .before .loop in
+    let a = c .before .before .before .before .before .args in
+    let gap = c .before .before .before .less .ensures in
+    let n : l .i - a .from ≡ min (a .len) (length (a .xs .now)) - a .from = omega arith in
+    rw (gap, n) at (l .inv .1 .1 .1)
+
+pub close-u16-spec : {M : Type 1} → statement M
+close-u16-spec =
+    tie.close
+    (tie.spec
+    Inv-loop
+    μ-loop
+    less-requires
+    least-requires
+    loop-holds
+    mul-xs
+    slice-read-xs
+    sub-xs
+    mul-xs-2
+    slice-write-xs
+    add-i
+    loop-less
+    loop-again
+    same-length
+    returns)

@@ -5,8 +5,7 @@ ghost use Rattle.model.specs.Consistent.{consistent};
 ghost use Rattle.consistency.specs.StateOf.{linesLent, entriesLent, stateOf};
 use crate::holding::lines_sound;
 use crate::limits::within_limits;
-use crate::waiting_entries::redos_wait;
-use crate::waiting_entries::undos_wait;
+use crate::waiting_entries::all_wait;
 
 mod dirty_words;
 mod holding;
@@ -40,6 +39,15 @@ pub fn is_consistent<'a>(
     let sound = lines_sound((words / 8) as usize, opened, holders, states);
     let copied = *states;
     sound
-        & (undos_wait(words, holders, copied, undos, undo_threads, undo_words)
-            & redos_wait(words, holders, copied, redos, redo_threads, redo_words))
+        & all_wait(
+            words,
+            holders,
+            copied,
+            undos,
+            undo_threads,
+            undo_words,
+            redos,
+            redo_threads,
+            redo_words,
+        )
 }

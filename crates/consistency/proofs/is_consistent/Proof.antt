@@ -1,6 +1,6 @@
 -- `is_consistent` meets its contract: its tests are the linear test, which is the definition.
-use mathlib.Core.Bool.{true}
-use mathlib.Core.Path.{_≡_, sym, _∙_}
+use mathlib.Core.Bool.{Bool, true, _&&_}
+use mathlib.Core.Path.{_≡_, refl, sym, ap, _∙_}
 use Prim.Native.Nat.{_%_, _≤_}
 use native.Mathlib.Omega.{arith}
 use borrow.Author.Tests.{not-true, not-false}
@@ -38,24 +38,17 @@ module _ (c : tie.Else1) where
 lines-sound-requires : tie.Need-lines-sound-requires
 lines-sound-requires c κs = omega (arith, bounded c)
 
-undos-wait-requires : tie.Need-undos-wait-requires
-undos-wait-requires c κs =
-    let h = bounded (c .before .before) in
-    (h .0, (h .1 .0, h .1 .1 .0))
-
-redos-wait-requires : tie.Need-redos-wait-requires
-redos-wait-requires c κs =
-    let h = bounded (c .before .before .before) in
-    (h .0, (h .1 .0, h .1 .1 .1))
+all-wait-requires : tie.Need-all-wait-requires
+all-wait-requires c κs = bounded (c .before .before)
 
 returns-2 : tie.Need-returns-2
 returns-2 c =
-    let start = c .before .before .before .before in
+    let start = c .before .before .before in
     let a = start .before .before .args in
-    parts-consistent (a .words) (a .slots) (a .head) (a .tail) (a .opened .now) (a .holders .now) (a .states .now) (a .undos) (a .undo-threads .now)
-    (a .undo-words .now) (a .redos) (a .redo-threads .now) (a .redo-words .now) true (c .before .before .before .lines-sound .result)
-    (c .before .undos-wait .result) (c .redos-wait .result) (sym (within start)) (c .before .before .before .lines-sound .ensures)
-    (c .before .undos-wait .ensures) (c .redos-wait .ensures)
+    let lines = c .before .before .lines-sound in
+    ap (λ (t : Bool). lines .result && t) (c .all-wait .ensures)
+    ∙ parts-consistent (a .words) (a .slots) (a .head) (a .tail) (a .opened .now) (a .holders .now) (a .states .now) (a .undos) (a .undo-threads .now)
+    (a .undo-words .now) (a .redos) (a .redo-threads .now) (a .redo-words .now) true (lines .result) _ _ (sym (within start)) (lines .ensures) refl refl
 
 pub is-consistent-spec : {M : Type 1} → statement M
 is-consistent-spec =
@@ -65,6 +58,5 @@ is-consistent-spec =
     returns
     cast-lines-sound
     lines-sound-requires
-    undos-wait-requires
-    redos-wait-requires
+    all-wait-requires
     returns-2)

@@ -1,5 +1,6 @@
 -- `waiting_entries::undos_wait` meets its contract, by what the walk finds and leaves.
 use borrow.Author.Needs.{needs}
+use Rattle.model.proofs.Lists.{both-left}
 use Rattle.consistency.specs.StateOf.{entriesLent}
 use Rattle.consistency.proofs.Walking.{undos-walked}
 use Rattle.consistency.proofs.waiting_entries.undos_wait.Statement.{statement}
@@ -18,8 +19,11 @@ returns : tie.Need-returns
 returns c =
     let a = c .before .before .before .before .before .before .args in
     let each = c .before .before .each-waits in
-    undos-walked (a .words) (a .holders .now) (a .t3) (entriesLent (a .count) (a .threads .now) (a .targets .now)) (each .last .1 .1 .0) (each .result)
-    (c .all-settled .result) (each .ensures) (c .all-settled .ensures (a .holders .now))
+    let settled = c .all-settled in (
+      undos-walked (a .words) (a .holders .now) (a .states .now) (entriesLent (a .count) (a .threads .now) (a .targets .now)) (each .last .1 .1 .0)
+          (each .result) (settled .result) (each .ensures) (settled .ensures (a .holders .now)),
+      (each .ensures .size, λ passed. each .ensures .lines (both-left (each .result) (settled .result) passed)),
+    )
 
 pub undos-wait-spec : {M : Type 1} → statement M
 undos-wait-spec =

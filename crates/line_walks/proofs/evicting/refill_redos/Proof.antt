@@ -28,7 +28,8 @@ refilled-so : (c : tie.After-put-values) → let a = start (c .before .before .b
 refilled-so c =
     let joined = c .before .before .before in
     let a = start joined .args in
-    then-put (valuesIn (a .working .now) (a .line)) (a .len) (a .gone) (a .states) (c .before .less .result) (a .redos .now) (joined .if2 .redos) (c .put-values .last .0)
+    then-put (valuesIn (a .working .now) (a .line)) (a .len) (a .gone) (a .states) (c .before .less .result)
+    (a .redos .now) (joined .if2 .redos) (c .put-values .last .0)
     (c .before .less .ensures) (rest joined) (c .put-values .ensures)
 
 put-values-requires : tie.Need-put-values-requires

@@ -171,7 +171,9 @@ add-state c =
     omega (arith, c .count-ulog .ensures .0)
 
 put-states-requires : tie.Need-put-states-requires
-put-states-requires c κs = place (unread (c .before .before .before .before .before .before .before .before .before .before .before .before .before .before .before))
+put-states-requires c κs =
+    let counted = c .before .before in
+    place (unread (counted .before .before .before .before .before .before .before .before .before .before .before .before .before))
 
 -- the tail is as it was
 same-tail : (c : tie.Joined3) → c .if3 .state .tail ≡ began (unread (c .before .before)) .args .t1 .tail

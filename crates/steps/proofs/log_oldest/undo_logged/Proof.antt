@@ -126,12 +126,14 @@ close-values-requires-2 c κs = search needs
 
 sub-state : tie.Need-sub-state
 sub-state c =
-    let k = known (passed (c .before .before .before .before .before .before .before .before .before .before .before .before .before .before .before)) in
+    let taken = c .before .before .before .before .before .before .before .before .before .before .before .before in
+    let k = known (passed (taken .before .before .before)) in
     omega (arith, k .some)
 
 add-state : tie.Need-add-state
 add-state c =
-    let k = known (passed (c .before .before .before .before .before .before .before .before .before .before .before .before .before .before .before .before)) in
+    let taken = c .before .before .before .before .before .before .before .before .before .before .before .before .before in
+    let k = known (passed (taken .before .before .before)) in
     omega (arith, k .fits .clauses .tail)
 
 same-length-3 : tie.Need-same-length-3

@@ -269,7 +269,10 @@ module _ (c : tie.After-mark) where
       (view (room made)) _ (differs h) (claim h) was (start h .pre .1 .1) (kind h) (ready made .seen)
       (filed-first (room made) (e h) k (entries .threads) (entries .words) (entries .undos) (entries .redos) (c .mark .last .0) ds
       (ready made .lines) (ready made .undos) (l .0) (l .1 .1) (made .before .before .before .before .match .keys1)
-      (c .before .before .before .before .before .before .before .before .before .push-thread .ensures) (c .before .before .before .before .before .before .before .push-word .ensures) (c .before .before .before .before .before .push-value .ensures) (c .before .before .before .push-value2 .ensures)
+      (c .before .before .before .before .before .before .before .before .before .push-thread .ensures)
+      (c .before .before .before .before .before .before .before .push-word .ensures)
+      (c .before .before .before .before .before .push-value .ensures)
+      (c .before .before .before .push-value2 .ensures)
       (c .mark .ensures (ready made .lines .states)) kept)
 
 -- the place of the word's redo entry was looked for
@@ -301,7 +304,8 @@ returns-2 c mem was =
     let d = s (at found) .redos in
     first-filed (filed found) mem was _
     (redos-kept d (e (at found) .word) (found .find .result) (threads .last .0) (words .last .0) (values .last .0) (whole-keys (start (at found)))
-    (limits (made (filed found)) .1 .0) (c .before .before .before .before .before .before .before .if2 .taken) (redo-place found) (threads .ensures) (words .ensures) (values .ensures))
+    (limits (made (filed found)) .1 .0) (c .before .before .before .before .before .before .before .if2 .taken) (redo-place found)
+    (threads .ensures) (words .ensures) (values .ensures))
 
 returns-3 : tie.Need-returns-3
 returns-3 c mem was =

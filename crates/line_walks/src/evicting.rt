@@ -21,8 +21,11 @@ fn adds(states: u16, j: usize, at: usize) -> bool
     ulog & (at < 32)
 }
 
+// The numbers of the new entries put from place `from` on, one for each ULog word of the line: in the array of the threads, of the words and
+// of the redos.
 fn put_threads(threads: &mut [u8; 32], from: usize, states: u16, holder: u8)
-    ensures { λ _. ⌜ (length (now (threads .entry)) ≡ 32 → now (threads .exit) ≡ placed from (map (λ _. holder) (ulogWords states)) (now (threads .entry))) ⌝ }
+    ensures { λ _. ⌜ (length (now (threads .entry)) ≡ 32
+        → now (threads .exit) ≡ placed from (map (λ _. holder) (ulogWords states)) (now (threads .entry))) ⌝ }
 {
     let mut at = least(from, 32);
     let mut j = 0;
@@ -37,7 +40,8 @@ fn put_threads(threads: &mut [u8; 32], from: usize, states: u16, holder: u8)
 
 fn put_words(words: &mut [u16; 32], from: usize, states: u16, line: usize)
     requires { ⌜ line < 64 ⌝ }
-    ensures { λ _. ⌜ (length (now (words .entry)) ≡ 32 → now (words .exit) ≡ placed from (map (wordsIn line) (ulogWords states)) (now (words .entry))) ⌝ }
+    ensures { λ _. ⌜ (length (now (words .entry)) ≡ 32
+        → now (words .exit) ≡ placed from (map (wordsIn line) (ulogWords states)) (now (words .entry))) ⌝ }
 {
     let mut at = least(from, 32);
     let mut j = 0;
@@ -52,7 +56,8 @@ fn put_words(words: &mut [u16; 32], from: usize, states: u16, line: usize)
 
 fn put_values(values: &mut [u64; 32], from: usize, states: u16, working: &[u64], line: usize)
     requires { ⌜ 8 * line + 8 ≤ length (now working) ⌝ }
-    ensures { λ _. ⌜ (length (now (values .entry)) ≡ 32 → now (values .exit) ≡ placed from (map (valuesIn (now (working .entry)) line) (ulogWords states)) (now (values .entry))) ⌝ }
+    ensures { λ _. ⌜ (length (now (values .entry)) ≡ 32
+        → now (values .exit) ≡ placed from (map (valuesIn (now (working .entry)) line) (ulogWords states)) (now (values .entry))) ⌝ }
 {
     let mut at = least(from, 32);
     let mut j = 0;
@@ -68,7 +73,8 @@ fn put_values(values: &mut [u64; 32], from: usize, states: u16, working: &[u64],
 // The threads of the redo buffer's 32 places after an eviction: of `len` entries the `gone` oldest are taken, then one is added for each ULog
 // word of the line, by the line's states.
 pub fn refill_threads(threads: &mut [u8; 32], len: usize, gone: usize, states: u16, holder: u8)
-    ensures { λ _. ⌜ (length (now (threads .entry)) ≡ 32 → now (threads .exit) ≡ refilled (λ _. holder) len gone states (now (threads .entry))) ⌝ }
+    ensures { λ _. ⌜ (length (now (threads .entry)) ≡ 32
+        → now (threads .exit) ≡ refilled (λ _. holder) len gone states (now (threads .entry))) ⌝ }
 {
     if gone != 0 {
         RedoBuffer::close_threads(threads, 0, gone, len);

@@ -3,14 +3,14 @@ use Prim.Native.Nat.{ℕ, zero, suc, _+_, _-_, min}
 use mathlib.Core.List.{List, [], _∷_}
 use lib.ListN.{length, getD, set}
 
--- the n elements from place `from` on moved down by `gap` places, one after the other
+-- the n elements that stand `gone` places behind place `at` and the places after it moved there, one after the other
 unfoldable pub movedDown : ℕ → ℕ → ℕ → List ℕ → List ℕ
-movedDown gap from zero xs = xs
-movedDown gap from (suc n) xs = set (movedDown gap from n xs) (from + n - gap) (getD (movedDown gap from n xs) (from + n) 0)
+movedDown at gone zero xs = xs
+movedDown at gone (suc n) xs = set (movedDown at gone n xs) (at + n) (getD (movedDown at gone n xs) (at + n + gone) 0)
 
--- of the first `len` elements those from place `from` on moved down to place `at`, so that those from `at` to `from` are gone
+-- of the first `len` elements, `gone` are taken from place `at` on: those behind them move down
 abbrev pub closed : ℕ → ℕ → ℕ → List ℕ → List ℕ
-closed at from len xs = movedDown (from - at) from (min len (length xs) - from) xs
+closed at gone len xs = movedDown at gone (min len (length xs) - gone - at) xs
 
 -- numbers put from place n on, one after the other
 unfoldable pub placed : ℕ → List ℕ → List ℕ → List ℕ

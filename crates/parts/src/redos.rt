@@ -20,21 +20,22 @@ impl RedoBuffer {
         }
     }
 
-    pub fn close_threads(threads: &mut [u8; 32], at: usize, from: usize, len: usize)
-        ensures { λ _. ⌜ now (threads .exit) ≡ closed at from len (now (threads .entry)) ⌝ }
+    // Of `len` entries, `gone` are taken from place `at` on: in each array the numbers of those behind them move down.
+    pub fn close_threads(threads: &mut [u8; 32], at: usize, gone: usize, len: usize)
+        ensures { λ _. ⌜ now (threads .exit) ≡ closed at gone len (now (threads .entry)) ⌝ }
     {
-        close_u8(threads, at, from, len);
+        close_u8(threads, at, gone, len);
     }
 
-    pub fn close_words(words: &mut [u16; 32], at: usize, from: usize, len: usize)
-        ensures { λ _. ⌜ now (words .exit) ≡ closed at from len (now (words .entry)) ⌝ }
+    pub fn close_words(words: &mut [u16; 32], at: usize, gone: usize, len: usize)
+        ensures { λ _. ⌜ now (words .exit) ≡ closed at gone len (now (words .entry)) ⌝ }
     {
-        close_u16(words, at, from, len);
+        close_u16(words, at, gone, len);
     }
 
-    pub fn close_values(values: &mut [u64; 32], at: usize, from: usize, len: usize)
-        ensures { λ _. ⌜ now (values .exit) ≡ closed at from len (now (values .entry)) ⌝ }
+    pub fn close_values(values: &mut [u64; 32], at: usize, gone: usize, len: usize)
+        ensures { λ _. ⌜ now (values .exit) ≡ closed at gone len (now (values .entry)) ⌝ }
     {
-        close_u64(values, at, from, len);
+        close_u64(values, at, gone, len);
     }
 }

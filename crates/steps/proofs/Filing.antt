@@ -138,7 +138,7 @@ place-found w len n r ts ws us rs size short e =
 
 -- the redo entries without that of a word, the arrays of the buffer being closed at its place
 pub redos-kept : (b : RedoBuffer) (w at : ℕ) (ts ws vs : List ℕ) → WholeRedos b → b .len ≤ 32 → at < b .len → at ≡ placeOf w (redosWaiting b)
-    → ts ≡ closed at (at + 1) (b .len) (b .threads) → ws ≡ closed at (at + 1) (b .len) (b .words) → vs ≡ closed at (at + 1) (b .len) (b .redos)
+    → ts ≡ closed at 1 (b .len) (b .threads) → ws ≡ closed at 1 (b .len) (b .words) → vs ≡ closed at 1 (b .len) (b .redos)
     → waitingOf (b .len - 1) ts ws [] vs ≡ discarded w (redosWaiting b)
 redos-kept b w at ts ws vs keys short below e t x v =
     rw (t, x, v) (redos-discarded 32 (b .len) (b .threads) (b .words) (b .redos) short keys w at below e)

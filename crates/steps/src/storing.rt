@@ -106,10 +106,9 @@ pub fn next_state(mut state: Fields, entry: Entry, count: usize) -> Fields
             let len = state.redos.len;
             let old = find(&state.redos.words, len, entry.word);
             if old < len {
-                let next = old + 1;
-                RedoBuffer::close_threads(&mut state.redos.threads, old, next, len);
-                RedoBuffer::close_words(&mut state.redos.words, old, next, len);
-                RedoBuffer::close_values(&mut state.redos.redos, old, next, len);
+                RedoBuffer::close_threads(&mut state.redos.threads, old, 1, len);
+                RedoBuffer::close_words(&mut state.redos.words, old, 1, len);
+                RedoBuffer::close_values(&mut state.redos.redos, old, 1, len);
                 state.redos.len = len - 1;
             }
         }

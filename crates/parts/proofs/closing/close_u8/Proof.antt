@@ -1,4 +1,4 @@
--- `close_u8` meets its contract. Before each turn the elements passed have moved down.
+-- `close_u8` meets its contract. Before each turn the elements for the places passed have moved down.
 use Prim.Native.Nat.{_-_, _≤_, min}
 use mathlib.Core.Path.{_≡_, refl}
 use native.Mathlib.Omega.{arith}
@@ -10,28 +10,28 @@ use Rattle.parts.proofs.closing.close_u8.Statement.{statement}
 use Rattle.parts.proofs.closing.close_u8.Tie as tie
 
 abbrev Inv-loop : tie.InvT-loop
-Inv-loop xs₀ at from len gap end i₀ xs i =
-    (from ≤ i) × ((i - from ≤ end - from) × ((length xs ≡ length xs₀) × (xs ≡ movedDown gap from (i - from) xs₀)))
+Inv-loop xs₀ at gone len end i₀ xs i =
+    (at ≤ i) × ((i - at ≤ end - at) × ((length xs ≡ length xs₀) × (xs ≡ movedDown at gone (i - at) xs₀)))
 
 abbrev μ-loop : tie.MeasureT-loop
-μ-loop xs₀ at from len gap end i₀ xs i = end - i
-
-less-requires : tie.Need-less-requires Inv-loop μ-loop
-less-requires c κs = search needs
+μ-loop xs₀ at gone len end i₀ xs i = end - i
 
 least-requires : tie.Need-least-requires Inv-loop μ-loop
 least-requires c κs = search needs
 
+less-requires : tie.Need-less-requires Inv-loop μ-loop
+less-requires c κs = search needs
+
 loop-holds : tie.Need-loop-holds Inv-loop μ-loop
 loop-holds c =
     let a = c .before .before .before .args in
-    (omega arith, (omega arith, (refl, moved-none (c .before .less .result) (a .from) (a .xs .now))))
+    (omega arith, (omega arith, (refl, moved-none (a .at) (a .gone) (a .xs .now))))
+
+add-xs : tie.Need-add-xs Inv-loop μ-loop
+add-xs c = omega arith
 
 slice-read-xs : tie.Need-slice-read-xs Inv-loop μ-loop
 slice-read-xs c = omega arith
-
-sub-xs : tie.Need-sub-xs Inv-loop μ-loop
-sub-xs c = omega arith
 
 slice-write-xs : tie.Need-slice-write-xs Inv-loop μ-loop
 slice-write-xs c = omega arith
@@ -46,9 +46,8 @@ loop-again : tie.Need-loop-again Inv-loop μ-loop
 loop-again c =
     let l = c .before .before .loop in
     let a = c .before .before .before .before .before .before .args in
-    let gap = c .before .before .before .before .less .result in
     let e = l .inv .1 .1 .1 in
-    (omega arith, (omega arith, (simp length-set (l .inv .1 .1 .0), rw e (moved-more gap (a .from) (l .i) (a .xs .now) (l .inv .0)))))
+    (omega arith, (omega arith, (simp length-set (l .inv .1 .1 .0), rw e (moved-more (a .at) (a .gone) (l .i) (a .xs .now) (l .inv .0)))))
 
 same-length : tie.Need-same-length Inv-loop μ-loop
 same-length c = search needs
@@ -57,9 +56,8 @@ returns : tie.Need-returns Inv-loop μ-loop
 returns c =
     let l = c .before .loop in
     let a = c .before .before .before .before .before .args in
-    let gap = c .before .before .before .less .ensures in
-    let n : l .i - a .from ≡ min (a .len) (length (a .xs .now)) - a .from = omega arith in
-    rw (gap, n) at (l .inv .1 .1 .1)
+    let n : l .i - a .at ≡ min (a .len) (length (a .xs .now)) - a .gone - a .at = omega arith in
+    rw n at (l .inv .1 .1 .1)
 
 pub close-u8-spec : {M : Type 1} → statement M
 close-u8-spec =
@@ -67,11 +65,11 @@ close-u8-spec =
     (tie.spec
     Inv-loop
     μ-loop
-    less-requires
     least-requires
+    less-requires
     loop-holds
+    add-xs
     slice-read-xs
-    sub-xs
     slice-write-xs
     add-i
     loop-less

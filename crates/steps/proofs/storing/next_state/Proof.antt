@@ -289,12 +289,6 @@ module _ (c : tie.After-find) where
       place-found (e at .word) (d .len) 32 (c .find .result) (d .threads) (d .words) [] (d .redos) (whole-keys (start at) .words) (limits (made filed) .1 .0)
       (c .find .ensures (d .threads) [] (d .redos))
 
-add-next : tie.Need-add-next
-add-next c =
-    let few = limits (made (filed (c .before))) .1 .0 in
-    let within = c .if2 .taken in
-    omega arith
-
 returns-2 : tie.Need-returns-2
 returns-2 c mem was =
     let threads = c .before .before .before .before .before .close-threads in
@@ -399,7 +393,6 @@ next-state-spec =
     add-state-2
     mark-requires
     find-requires
-    add-next
     close-threads-requires
     close-words-requires
     close-values-requires

@@ -82,14 +82,11 @@ module _ (lost : Bool) (words slots head tail : ℕ) (opened : List Bool) (ls : 
   whole =
       record {
         lost = lost;
-        words = words;
-        slots = slots;
-        head = head;
-        tail = tail;
+        sizes = record { words = words; slots = slots };
+        span = record { head = head; tail = tail };
         opened = opened;
         lines = firstLines (words / 8) ls;
-        undoRedo = undos;
-        redo = redos;
+        buffers = record { undoRedo = undos; redo = redos };
       }
 
   abbrev lent : Machine

@@ -363,105 +363,105 @@ every-pair : {A : Type 0} (P Q : A → Type 0) (xs : List A) → Every P xs → 
 every-pair P Q [] p q = tt
 every-pair P Q (x ∷ xs) p q = ((p .0, q .0), every-pair P Q xs (p .1) (q .1))
 
-module _ (m : Machine) (lines : length (m .lines) ≡ m .words / 8) where
+module _ (m : Machine) (lines : length (m .lines) ≡ m .sizes .words / 8) where
   -- W is a multiple of 8
-  wide : isWidth (m .words) ≡ true → m .words ≡ 8 * length (m .lines)
+  wide : isWidth (m .sizes .words) ≡ true → m .sizes .words ≡ 8 * length (m .lines)
   wide w =
-      let e = halves (leb 8 (m .words)) (leb (m .words) 512 && eqb (m .words % 8) 0) w in
-      let f : m .words % 8 ≡ 0 = eqb-true (m .words % 8) 0 (halves (leb (m .words) 512) (eqb (m .words % 8) 0) (e .1) .1) in
+      let e = halves (leb 8 (m .sizes .words)) (leb (m .sizes .words) 512 && eqb (m .sizes .words % 8) 0) w in
+      let f : m .sizes .words % 8 ≡ 0 = eqb-true (m .sizes .words % 8) 0 (halves (leb (m .sizes .words) 512) (eqb (m .sizes .words % 8) 0) (e .1) .1) in
       omega arith
 
   linear-passes : linear m ≡ true → consistent m ≡ true
   unfolding linear redosWait consistent withinLimits dirtyWait redoClean entriesHeld
   linear-passes t =
       let h =
-      halves (inLimits (m .words) (m .slots) (m .head) (m .tail) (length (m .undoRedo)) (length (m .redo))) (sound && (undos && redos)) t in
-      let n = limits (m .words) (m .slots) (m .head) (m .tail) (length (m .undoRedo)) (length (m .redo)) (h .0) in
+      halves (inLimits (m .sizes .words) (m .sizes .slots) (m .span .head) (m .span .tail) (length (m .buffers .undoRedo)) (length (m .buffers .redo))) (sound && (undos && redos)) t in
+      let n = limits (m .sizes .words) (m .sizes .slots) (m .span .head) (m .span .tail) (length (m .buffers .undoRedo)) (length (m .buffers .redo)) (h .0) in
       let b = halves sound (undos && redos) (h .1) in
       let e = halves undos redos (b .1) in
       let l = halves (all lineLimits (m .lines)) (holdersOpen m && freeClean m) (sym (lines-clauses m) ∙ b .0) in
-      let wide' = wide (both-left (isWidth (m .words)) (leb 8 (m .slots) && leb (m .slots) 1024) (n .sizes)) in
-      let u = undos-each (m .words) (m .lines) (m .undoRedo) wide' (e .0) in
-      let d = test-walkable Clean ULog (m .words) (omega arith) (λ q. absurd (omega arith)) (m .redo) (m .lines) (omega arith) (e .1) in
-      let us = walkable-waits Dirty (m .words) (m .lines) (m .undoRedo) (u .0) in
-      let ds = walkable-waits Clean (m .words) (m .lines) (m .redo) d in
+      let wide' = wide (both-left (isWidth (m .sizes .words)) (leb 8 (m .sizes .slots) && leb (m .sizes .slots) 1024) (n .sizes)) in
+      let u = undos-each (m .sizes .words) (m .lines) (m .buffers .undoRedo) wide' (e .0) in
+      let d = test-walkable Clean ULog (m .sizes .words) (omega arith) (λ q. absurd (omega arith)) (m .buffers .redo) (m .lines) (omega arith) (e .1) in
+      let us = walkable-waits Dirty (m .sizes .words) (m .lines) (m .buffers .undoRedo) (u .0) in
+      let ds = walkable-waits Clean (m .sizes .words) (m .lines) (m .buffers .redo) d in
       both
-      (both (n .sizes) (both (n .bounds) (both (l .0) (both (n .entries) (both (entries (m .undoRedo) (u .0 .ok)) (entries (m .redo) (d .ok)))))))
+      (both (n .sizes) (both (n .bounds) (both (l .0) (both (n .entries) (both (entries (m .buffers .undoRedo) (u .0 .ok)) (entries (m .buffers .redo) (d .ok)))))))
       (both (n .order)
       (both
       (both
-      (all-true (λ v. dirtyOnce (m .words) (m .lines) (m .undoRedo) wide' v ≡ true) _ (upTo (m .words)) (λ v q. q)
-      (every-listed _ (m .words) (λ i. i) (u .1)))
-      (all-in-state Dirty (m .lines) (m .undoRedo) us))
-      (both (all-alone Clean (m .lines) (m .redo) ds)
-      (both (both (all-held Dirty (m .lines) (m .undoRedo) us) (all-held Clean (m .lines) (m .redo) ds)) (l .1)))))
+      (all-true (λ v. dirtyOnce (m .sizes .words) (m .lines) (m .buffers .undoRedo) wide' v ≡ true) _ (upTo (m .sizes .words)) (λ v q. q)
+      (every-listed _ (m .sizes .words) (λ i. i) (u .1)))
+      (all-in-state Dirty (m .lines) (m .buffers .undoRedo) us))
+      (both (all-alone Clean (m .lines) (m .buffers .redo) ds)
+      (both (both (all-held Dirty (m .lines) (m .buffers .undoRedo) us) (all-held Clean (m .lines) (m .buffers .redo) ds)) (l .1)))))
     where
       sound : Bool
       sound = all (lineSound (m .opened)) (m .lines)
 
       undos : Bool
-      undos = undosWait (m .words) (m .lines) (m .undoRedo)
+      undos = undosWait (m .sizes .words) (m .lines) (m .buffers .undoRedo)
 
       redos : Bool
-      redos = redosWait (m .words) (m .lines) (m .redo)
+      redos = redosWait (m .sizes .words) (m .lines) (m .buffers .redo)
 
-      entries : (es : List Entry) → Every (EntryOk (m .words)) es → all (entryLimits (m .words)) es ≡ true
-      entries es ok = all-true (EntryOk (m .words)) (entryLimits (m .words)) es (entry-limits (m .words)) ok
+      entries : (es : List Entry) → Every (EntryOk (m .sizes .words)) es → all (entryLimits (m .sizes .words)) es ≡ true
+      entries es ok = all-true (EntryOk (m .sizes .words)) (entryLimits (m .sizes .words)) es (entry-limits (m .sizes .words)) ok
 
   module _ (c : Clauses m) where
     -- a thread holds the line of its entry
-    held : Every (λ e. eqb (e .thread) (holderIn (m .lines) (e .word)) ≡ true) (m .undoRedo)
-        × Every (λ e. eqb (e .thread) (holderIn (m .lines) (e .word)) ≡ true) (m .redo)
+    held : Every (λ e. eqb (e .thread) (holderIn (m .lines) (e .word)) ≡ true) (m .buffers .undoRedo)
+        × Every (λ e. eqb (e .thread) (holderIn (m .lines) (e .word)) ≡ true) (m .buffers .redo)
     unfolding entriesHeld
-    held = let h = halves _ _ (c .held) in (all-every _ (m .undoRedo) (h .0), all-every _ (m .redo) (h .1))
+    held = let h = halves _ _ (c .held) in (all-every _ (m .buffers .undoRedo) (h .0), all-every _ (m .buffers .redo) (h .1))
 
     -- a Dirty word has one undo+redo entry
-    dirty-once : (w : ℕ) → w < m .words → dirtyOnce (m .words) (m .lines) (m .undoRedo) (wide (c .width)) w ≡ true
+    dirty-once : (w : ℕ) → w < m .sizes .words → dirtyOnce (m .sizes .words) (m .lines) (m .buffers .undoRedo) (wide (c .width)) w ≡ true
     unfolding dirtyWait
-    dirty-once = upto-each _ (m .words) (both-left _ _ (c .dirty))
+    dirty-once = upto-each _ (m .sizes .words) (both-left _ _ (c .dirty))
 
-    undos-wait : AllWait Dirty (m .lines) (m .undoRedo)
+    undos-wait : AllWait Dirty (m .lines) (m .buffers .undoRedo)
     unfolding dirtyWait
     undos-wait =
-        every-implied _ (λ e. WaitsFor Dirty (m .lines) (m .undoRedo) (e .word) e) (m .undoRedo)
+        every-implied _ (λ e. WaitsFor Dirty (m .lines) (m .buffers .undoRedo) (e .word) e) (m .buffers .undoRedo)
         (λ e p.
         let s = eqb-true (stateIn (m .lines) (e .word)) Dirty (p .1) in
         record {
           state = s;
-          alone = eqb-true (length (entriesOf (e .word) (m .undoRedo))) 1 (rw s at (dirty-once (e .word) (p .0 .0 .word)));
+          alone = eqb-true (length (entriesOf (e .word) (m .buffers .undoRedo))) 1 (rw s at (dirty-once (e .word) (p .0 .0 .word)));
           thread = eqb-true (e .thread) (holderIn (m .lines) (e .word)) (p .0 .1);
         })
-        (every-pair _ _ (m .undoRedo) (every-pair _ _ (m .undoRedo) (c .undoOk) (held .0))
-        (all-every _ (m .undoRedo)
-        (both-right (all (dirtyOnce (m .words) (m .lines) (m .undoRedo) (wide (c .width))) (upTo (m .words))) _ (c .dirty))))
+        (every-pair _ _ (m .buffers .undoRedo) (every-pair _ _ (m .buffers .undoRedo) (c .undoOk) (held .0))
+        (all-every _ (m .buffers .undoRedo)
+        (both-right (all (dirtyOnce (m .sizes .words) (m .lines) (m .buffers .undoRedo) (wide (c .width))) (upTo (m .sizes .words))) _ (c .dirty))))
 
-    redos-wait : AllWait Clean (m .lines) (m .redo)
+    redos-wait : AllWait Clean (m .lines) (m .buffers .redo)
     unfolding redoClean
     redos-wait =
-        every-implied _ (λ e. WaitsFor Clean (m .lines) (m .redo) (e .word) e) (m .redo)
+        every-implied _ (λ e. WaitsFor Clean (m .lines) (m .buffers .redo) (e .word) e) (m .buffers .redo)
         (λ e p.
-        let s = halves (eqb (stateIn (m .lines) (e .word)) Clean) (eqb (length (entriesOf (e .word) (m .redo))) 1) (p .1) in
+        let s = halves (eqb (stateIn (m .lines) (e .word)) Clean) (eqb (length (entriesOf (e .word) (m .buffers .redo))) 1) (p .1) in
         record {
           state = eqb-true (stateIn (m .lines) (e .word)) Clean (s .0);
-          alone = eqb-true (length (entriesOf (e .word) (m .redo))) 1 (s .1);
+          alone = eqb-true (length (entriesOf (e .word) (m .buffers .redo))) 1 (s .1);
           thread = eqb-true (e .thread) (holderIn (m .lines) (e .word)) (p .0);
         })
-        (every-pair _ _ (m .redo) (held .1) (all-every _ (m .redo) (c .redo)))
+        (every-pair _ _ (m .buffers .redo) (held .1) (all-every _ (m .buffers .redo) (c .redo)))
 
     clauses-pass : linear m ≡ true
     unfolding linear inLimits redosWait
     clauses-pass =
         let w = wide (c .width) in
         both
-        (both (both (le-leb (m .head) numbers (c .head)) (le-leb (m .tail) numbers (c .tail)))
-        (both (both (c .width) (both (le-leb 8 (m .slots) (c .fewest)) (le-leb (m .slots) 1024 (c .most))))
-        (both (both (le-leb (length (m .undoRedo)) 16 (c .undoSize)) (le-leb (length (m .redo)) 32 (c .redoSize)))
-        (both (le-leb (m .head) (m .tail) (c .order)) (le-leb (m .tail) (m .head + m .slots) (c .span))))))
+        (both (both (le-leb (m .span .head) numbers (c .head)) (le-leb (m .span .tail) numbers (c .tail)))
+        (both (both (c .width) (both (le-leb 8 (m .sizes .slots) (c .fewest)) (le-leb (m .sizes .slots) 1024 (c .most))))
+        (both (both (le-leb (length (m .buffers .undoRedo)) 16 (c .undoSize)) (le-leb (length (m .buffers .redo)) 32 (c .redoSize)))
+        (both (le-leb (m .span .head) (m .span .tail) (c .order)) (le-leb (m .span .tail) (m .span .head + m .sizes .slots) (c .span))))))
         (both (lines-clauses m ∙ both (c .lines) (both (c .opened) (c .free)))
         (both
-        (each-undos (m .words) (m .lines) (m .undoRedo) w (waits-walkable Dirty (m .words) (m .lines) (m .undoRedo) (c .undoOk) undos-wait) dirty-once)
-        (walkable-test Clean ULog (m .words) (omega arith) (λ q. absurd (omega arith)) (m .redo) (m .lines) (omega arith)
-        (waits-walkable Clean (m .words) (m .lines) (m .redo) (c .redoOk) redos-wait))))
+        (each-undos (m .sizes .words) (m .lines) (m .buffers .undoRedo) w (waits-walkable Dirty (m .sizes .words) (m .lines) (m .buffers .undoRedo) (c .undoOk) undos-wait) dirty-once)
+        (walkable-test Clean ULog (m .sizes .words) (omega arith) (λ q. absurd (omega arith)) (m .buffers .redo) (m .lines) (omega arith)
+        (waits-walkable Clean (m .sizes .words) (m .lines) (m .buffers .redo) (c .redoOk) redos-wait))))
 
   -- the linear test passes where the definition does
   pub linear-consistent : linear m ≡ consistent m
@@ -487,8 +487,8 @@ module _ (words slots head tail : ℕ) (opened : List Bool) (holders states : Li
 
   -- the parts of the test make the whole
   pub parts-consistent : (limits lines undos redos : Bool) → limits ≡ inLimits words slots head tail us rs
-      → lines ≡ all (lineSound opened) (lent .lines) → undos ≡ undosWait words (lent .lines) (lent .undoRedo)
-      → redos ≡ redosWait words (lent .lines) (lent .redo) → (limits && (lines && (undos && redos))) ≡ consistent lent
+      → lines ≡ all (lineSound opened) (lent .lines) → undos ≡ undosWait words (lent .lines) (lent .buffers .undoRedo)
+      → redos ≡ redosWait words (lent .lines) (lent .buffers .redo) → (limits && (lines && (undos && redos))) ≡ consistent lent
   unfolding linear
   parts-consistent limits lines undos redos a b c d =
       ap₂ (λ (x y : Bool). x && y)

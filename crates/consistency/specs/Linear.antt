@@ -69,9 +69,9 @@ redosWait words ls es = eachWaits Clean ULog words ls es
 
 unfoldable pub linear : Machine → Bool
 linear m =
-    inLimits (m .words) (m .slots) (m .head) (m .tail) (length (m .undoRedo)) (length (m .redo)) &&
+    inLimits (m .sizes .words) (m .sizes .slots) (m .span .head) (m .span .tail) (length (m .buffers .undoRedo)) (length (m .buffers .redo)) &&
     (all (lineSound (m .opened)) (m .lines) &&
-    (undosWait (m .words) (m .lines) (m .undoRedo) && redosWait (m .words) (m .lines) (m .redo)))
+    (undosWait (m .sizes .words) (m .lines) (m .buffers .undoRedo) && redosWait (m .sizes .words) (m .lines) (m .buffers .redo)))
 
 -- What a walk over entries finds: whether each waits, and if so their words are marked in the states that it leaves.
 pub record Walked (wanted next words : ℕ) (holders before : List ℕ) (es : List Entry) (r : Bool) (after : List ℕ) : Type 0 where

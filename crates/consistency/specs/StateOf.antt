@@ -27,12 +27,9 @@ abbrev pub stateOf : ℕ → ℕ → ℕ → ℕ → List Bool → List Line →
 stateOf words slots head tail opened lines undos redos =
     record {
       lost = false;
-      words = words;
-      slots = slots;
-      head = head;
-      tail = tail;
+      sizes = record { words = words; slots = slots };
+      span = record { head = head; tail = tail };
       opened = opened;
       lines = lines;
-      undoRedo = undos;
-      redo = redos;
+      buffers = record { undoRedo = undos; redo = redos };
     }

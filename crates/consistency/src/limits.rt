@@ -1,9 +1,7 @@
 // The numbers of a state.
 ghost use mathlib.Core.Path.{_≡_};
 ghost use Rattle.consistency.specs.Linear.{inLimits};
-
-// Record numbers are below this.
-const NUMBERS: u64 = 0x1_0000_0000_0000;
+use log::NUMBERS;
 
 // The numbers are within their limits, head and tail in order.
 pub fn within_limits(

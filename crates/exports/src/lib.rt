@@ -1,10 +1,12 @@
 // The store for programs in other languages.
 ghost use mathlib.Core.Path.{_≡_};
+ghost use Rattle.model.specs.Machine.{lostMachine};
 ghost use Rattle.state.specs.View.{memory};
 ghost use Rattle.runner.specs.Running.{script, runOf};
 ghost use Rattle.exports.specs.Exported.{exported, exportOf};
+use machine::State;
 
-// Runs a list of steps as `runner::run` does. Each slice is passed as a pointer and a length; no two may overlap.
+// Runs a list of steps as `runner::run` does, from the lost state. Each slice is passed as a pointer and a length; no two may overlap.
 #[no_mangle]
 pub extern "C" fn rukwetid_run(
     home: &mut [u64],
@@ -21,11 +23,12 @@ pub extern "C" fn rukwetid_run(
     ensures { λ r. ⌜
         exported r (now (home .exit)) (now (working .exit)) (now (log .exit)) (now (answers .exit)) (now (stores .exit))
         ≡ exportOf (runOf (script (now (kinds .entry)) (now (threads .entry)) (now (places .entry)) (now (values .entry)) (now (supplies .entry)))
-        (memory (now (home .entry)) (now (working .entry)) (now (log .entry)))
+        lostMachine (memory (now (home .entry)) (now (working .entry)) (now (log .entry)))
         (now (answers .entry)) (now (stores .entry)))
         ⌝ }
 {
     let ran = runner::run(
+        State::lost(),
         home,
         working,
         log,

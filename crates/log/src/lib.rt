@@ -3,6 +3,7 @@
 mod region;
 mod slot;
 
+pub use region::NUMBERS;
 pub use region::append;
 pub use region::head;
 pub use region::is_written;

@@ -11,8 +11,8 @@ use crate::slot::decode;
 use crate::slot::store;
 use crate::slot::write;
 
-// Record numbers are below this.
-const NUMBERS: u64 = 0x1_0000_0000_0000;
+// Record numbers are below this; head and tail are at most this.
+pub const NUMBERS: u64 = 0x1_0000_0000_0000;
 
 // L, by the length of the log; 0 if no L from 8 to 1,024 has that length.
 pub fn slots(log: &[u64]) -> u64

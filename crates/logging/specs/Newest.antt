@@ -1,24 +1,20 @@
 -- "each ULog word in lines held by t, rising", and its redo record.
 use Prim.Native.Nat.{ℕ, _+_, _*_}
-use mathlib.Core.Bool.{Bool, cond, _&&_}
+use mathlib.Core.Bool.{Bool, cond}
 use mathlib.Core.List.{List, [], _∷_, map}
 use lib.Dec.{eqb}
 use lib.ListN.{getD}
 use Rattle.log.specs.declared.Record.{Record}
 use Rattle.log.specs.declared.Record.the-variants.{Redo}
-use Rattle.parts.specs.declared.Line.{Line}
 use Rattle.parts.specs.declared.Lines.{Lines}
 use Rattle.parts.specs.States.{stateAt, ULog}
 use Rattle.model.specs.Lists.{keep, upTo}
-use Rattle.model.specs.Machine.{stateIn, holderIn}
+-- those among the first n words
+unfoldable pub use Rattle.model.specs.Steps.{newestWords}
 
 -- the lines, by their fields
 abbrev pub linesOf : List ℕ → List Bool → List ℕ → Lines
 linesOf holders dirty states = record { holders = holders; dirty = dirty; states = states }
-
--- those among the first n words
-unfoldable pub newestWords : List Line → ℕ → ℕ → List ℕ
-newestWords ls t n = keep (λ w. eqb (holderIn ls w) t && eqb (stateIn ls w) ULog) (upTo n)
 
 -- those among the first n words of line i, which is held by h
 unfoldable pub newestInLine : ℕ → ℕ → ℕ → ℕ → ℕ → List ℕ

@@ -9,9 +9,9 @@ ghost use Rattle.parts.specs.Lines.{firstLines};
 ghost use Rattle.logging.specs.Newest.{linesOf, newestWords, newestInLine, ulogWord, redosOf};
 ghost use Rattle.logging.specs.Progressed.{Progressed, Stored};
 ghost use Rattle.logging.specs.Records.{undoBufferOf, redoBufferOf, commitRecordsOf};
-use crate::NUMBERS;
 use crate::redos::append_redos;
 use crate::undos::append_undos;
+use log::NUMBERS;
 use log::Record;
 
 // Where appending has come to: the number of the next record, and what is left of the supply.

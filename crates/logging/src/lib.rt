@@ -11,6 +11,3 @@ pub use newest::count_newest;
 pub use newest::count_ulog;
 pub use redos::append_redos;
 pub use undos::append_undos;
-
-// Record numbers are below this.
-const NUMBERS: u64 = 0x1_0000_0000_0000;

@@ -1,7 +1,7 @@
 // The oldest entries of the undo+redo buffer are logged. The buffer is lent by its fields.
 ghost use Rattle.logging.specs.Progressed.{Stored};
 ghost use Rattle.logging.specs.Records.{undoRecordsOf};
-use crate::NUMBERS;
+use log::NUMBERS;
 use log::Record;
 use parts::least;
 

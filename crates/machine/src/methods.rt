@@ -3,13 +3,12 @@ ghost use mathlib.Core.Path.{_≡_};
 ghost use mathlib.Core.List.{[]};
 ghost use Rattle.model.specs.Machine.{lostMachine};
 ghost use Rattle.model.specs.Step.{begin, store, logUndo, logRedo, evict, writeBack, commit, deleteOldest, recover, stepped};
-ghost use Rattle.steps.specs.Steps.{stepOf};
 ghost use Rattle.state.specs.View.{memory};
 ghost use Rattle.machine.specs.View.{view, shown};
 use crate::Answer;
 use crate::State;
+use parts::Step;
 use state::Made;
-use steps::Step;
 
 // What a step made, with the state around its fields.
 fn answer(made: Made) -> Answer
@@ -43,7 +42,7 @@ impl State {
         supply: u64,
     ) -> Answer
         ensures { λ (r : Answer). ⌜ shown r (now (home .exit)) (now (working .exit)) (now (log .exit))
-            ≡ stepped (stepOf step) supply (view self) (memory (now (home .entry)) (now (working .entry)) (now (log .entry))) ⌝ }
+            ≡ stepped step supply (view self) (memory (now (home .entry)) (now (working .entry)) (now (log .entry))) ⌝ }
     {
         let fields = self.fields;
         answer(steps::make(fields, step, home, working, log, supply))

@@ -1,8 +1,8 @@
--- A commit: both buffers, the newest redos of the thread's words, and the commit record.
+-- A commit: what it logs before its own record, and that record, which closes the transaction.
 use Prim.Native.Nat.{ℕ, _+_, _-_, _*_, _/_, _%_, _<_}
 use native.Mathlib.Decide.{decLt, ℕ-discrete}
 use native.Mathlib.Omega.{arith}
-use mathlib.Core.Path.{_≡_, refl, sym, ap, _∙_, subst₂}
+use mathlib.Core.Path.{_≡_, refl, sym, ap, _∙_, subst}
 use mathlib.Core.Bool.{Bool, true, false, cond, false≢true}
 use mathlib.Core.List.{List, [], _∷_, _++_, map, append-nil, append-assoc}
 use mathlib.Core.Logic.{inl}
@@ -10,50 +10,77 @@ use mathlib.Core.Option.{none}
 use borrow.Author.Tests.{eq-eqb, ne-eqb}
 use lib.Dec.{eqb}
 use lib.ListN.{length, getD, take, set, length-set, length-map, length-append}
-use lib.Seq.{take-append-le, take-append-add, take-length, drop-length, getD-set-same, getD-set-other}
+use lib.Seq.{take-append-le, take-append-add, getD-set-same, getD-set-other}
 use Rattle.log.specs.declared.Record.{Record}
 use Rattle.log.specs.declared.Record.the-variants.{Commit}
 use Rattle.log.specs.Stores.{Store}
 use Rattle.log.specs.Holding.{Valid}
 use Rattle.log.proofs.Holding.{every-append}
+use Rattle.parts.specs.declared.Entry.{Entry}
 use Rattle.parts.specs.declared.Line.{Line}
 use Rattle.parts.specs.Lines.{nobody}
-use Rattle.parts.specs.States.{Clean, stateAt}
+use Rattle.parts.specs.States.{Clean, URLog, ULog, stateAt}
 use Rattle.parts.proofs.States.{state-clean}
 use Rattle.model.specs.Lists.{keep}
-use Rattle.model.specs.Machine.{Machine, Memory, withTail, withOpened, withLines, withRedo, isOpen, lineOf, stateIn, holderIn}
-use Rattle.model.specs.Machine.{dirtyIn, allLogged}
-use Rattle.model.specs.Steps.{undoRedoRecord, redoRecord, undosLogged, newestRedos, commitRecords, released}
+use Rattle.model.specs.Machine.{Machine, Memory, withLines, withUndoRedo, withRedo, isOpen, lineOf, stateIn, holderIn, dirtyIn, allLogged}
+use Rattle.model.specs.Consistent.{entriesOf}
+use Rattle.model.specs.Steps.{undoRedoRecord, redoRecord, newestWords, newestRedos, prepareRecords, prepareNext, released, closeNext}
+use Rattle.model.specs.Steps.{commitRecords, commitNext}
 use Rattle.model.specs.Step.{commit}
 use Rattle.model.specs.Book.{Book, settled, entered}
 use Rattle.model.proofs.Lists.{every-implied, every-mapped}
-use Rattle.model.proofs.LastTo.{or, lastTo, settled-word}
-use Rattle.model.proofs.Own.{redos, Own}
-use Rattle.model.proofs.Records.{redos-append, own-commit, own-closed, undo-of-own, redo-of-own, undo-of-other, redo-of-other}
-use Rattle.model.proofs.Lines.{line-released}
-use Rattle.model.proofs.Core.{Core, CoreOf, LineOk, Safe, Appends, core-safe}
-use Rattle.model.proofs.Words.{WordIn, committed-word}
+use Rattle.model.proofs.LastTo.{lastTo, settled-word}
+use Rattle.model.proofs.Own.{Own}
+use Rattle.model.proofs.Records.{own-commit, own-closed}
+use Rattle.model.proofs.Lines.{line-released, holder-words, holder-logged}
+use Rattle.model.proofs.Core.{At, Core, CoreOf, LineOk, Safe, Appends, core-safe, shape-owners}
+use Rattle.model.proofs.Words.{says-own, says-other, newest-known, committed-word}
 use Rattle.model.proofs.Logging.{undos-logged, redos-logged, undos-safe, redos-safe}
-use Rattle.model.proofs.Newest.{newestOf, isNewest, newest-after, newest-safe, newest-logged, newest-value}
+use Rattle.model.proofs.Newest.{newestOf, isNewest, newest-after, newest-safe, newest-logged, none-ulog}
 
--- what holds after some of a list, and after all of it and some but not all of another, holds after some but not all of both
-some-of-both : (P : List Record → Type 0) (rs xs ys : List Record) → ((k : ℕ) → P (rs ++ take k xs))
-    → ((k : ℕ) → k < length ys → P ((rs ++ xs) ++ take k ys)) → (k : ℕ) → k < length (xs ++ ys) → P (rs ++ take k (xs ++ ys))
-some-of-both P rs xs ys early late k h =
-    let n : ℕ = k - length xs in
-    let size : length (xs ++ ys) ≡ length xs + length ys = length-append xs ys in
-    elim (decLt k (length xs)) [
-      | yes p ↦ rw (take-append-le k xs ys (omega arith)) (early k)
-      | no q ↦
-          let sum : k ≡ length xs + n = omega arith in
-          let parts : take k (xs ++ ys) ≡ xs ++ take n ys = ap (λ j. take j (xs ++ ys)) sum ∙ take-append-add xs ys n in
-          rw (parts, ← append-assoc) (late n (omega arith))
-    ]
+-- records appended, then others: what a power cut leaves in between is safe, and the invariant holds at the end
+pub appends-then : {m mid next : Machine} {home : List ℕ} {b book : Book} {rs xs ys : List Record} {working last : List ℕ}
+    → Appends m home b rs xs mid working b → Appends mid home b (rs ++ xs) ys next last book → mid .sizes ≡ m .sizes
+    → Appends m home b rs (xs ++ ys) next last book
+appends-then {m} {mid} {home = home} {b} {rs = rs} {xs} {ys} early late same =
+    record {
+      safe = λ k h.
+          let size : length (xs ++ ys) ≡ length xs + length ys = length-append xs ys in
+          elim (decLt k (length xs)) [
+            | yes p ↦ rw (take-append-le k xs ys (omega arith)) (early .safe k p)
+            | no q ↦
+                let sum : k ≡ length xs + (k - length xs) = omega arith in
+                let parts : take k (xs ++ ys) ≡ xs ++ take (k - length xs) ys =
+                ap (λ j. take j (xs ++ ys)) sum ∙ take-append-add xs ys (k - length xs) in
+                subst (λ z. Safe (z .words) (rs ++ take k (xs ++ ys)) home (b .committed)) same
+                (rw (parts, ← append-assoc) (late .safe (k - length xs) (omega arith)))
+          ];
+      core = rw (← append-assoc) (late .core);
+    }
 
--- a commit record has no redo
-redos-commit : (t : ℕ) (rs : List Record) → redos (rs ++ (Commit t ∷ [])) ≡ redos rs
-unfolding redos
-redos-commit t rs = redos-append rs (Commit t ∷ []) ∙ append-nil (redos rs)
+-- what is logged before the commit record: the undo+redo buffer, the redo buffer, and t's newest values
+pub prepare-step : (m : Machine) (mem : Memory) (b : Book) (rs : List Record) (t : ℕ) → CoreOf m (mem .home) (mem .working) b rs → t < 8
+    → Appends m (mem .home) b rs (prepareRecords m mem t) (prepareNext m mem t) (mem .working) b
+unfolding prepareRecords prepareNext newestRedos newestWords
+prepare-step m mem b rs t core small =
+    let us : List Entry = m .buffers .undoRedo in
+    let ds : List Entry = m .buffers .redo in
+    let xs : List Record = map undoRedoRecord us in
+    let test : ℕ → Bool = isNewest t (m .lines) in
+    let before = rw (← (append-nil us)) at core in
+    let first = undos-logged us [] ds (m .lines) rs before in
+    let between = rw (← (append-nil ds)) at first in
+    let second = redos-logged ds [] [] (allLogged us (m .lines)) (rs ++ xs) between in
+    let undone : Machine = withUndoRedo [] (withLines (allLogged us (m .lines)) m) in
+    let undos : Appends m (mem .home) b rs xs undone (mem .working) b =
+    record { safe = λ k h. undos-safe k us [] ds (m .lines) rs before; core = first } in
+    let redos : Appends undone (mem .home) b (rs ++ xs) (map redoRecord ds) (withRedo [] undone) (mem .working) b =
+    record { safe = λ k h. redos-safe k ds [] [] (allLogged us (m .lines)) (rs ++ xs) between; core = second } in
+    appends-then undos
+    (appends-then redos
+    (record { safe = λ k h. newest-safe t test second k; core = newest-logged t test second small (newest-after t core) })
+    refl)
+    refl
 
 -- a line that is in order stays so when t commits
 line-committed : (opened : List Bool) (t : ℕ) (line : Line) → LineOk opened line → LineOk (set opened t false) (released t line)
@@ -96,122 +123,108 @@ module _ (t : ℕ) (small : t < 8) (ls : List Line) where
       released-part (λ line. stateAt (line .states) (w % 8)) (w / 8)
       ∙ ap (λ n. cond (eqb (holderIn ls w) t) n (stateIn ls w)) (state-clean (w % 8))
 
-module _ {words : ℕ} {opened : List Bool} {home working : List ℕ} {s : ℕ → ℕ} {p : ℕ → List Store} {ls : List Line} {rs : List Record}
-    (t : ℕ) (small : t < 8) (began : getD opened t false ≡ true) (core : Core words opened ls [] [] rs home working s p)
-    (newest : (w : ℕ) → w < words → holderIn ls w ≡ t → or (lastTo w (redos rs)) (getD home w 0) ≡ getD working w 0) where
-  -- a word after the commit of t
-  committed-in : (w : ℕ) → w < words → WordIn (map (released t) ls) [] [] (rs ++ (Commit t ∷ [])) home working (settled s (p t)) p w
-  unfolding keep
-  committed-in w h =
-      elim (ℕ-discrete (holderIn ls w) t) [
+-- preparing leaves the sizes and the open transactions
+same-sizes : (m : Machine) (mem : Memory) (t : ℕ) → prepareNext m mem t .sizes ≡ m .sizes
+unfolding prepareNext
+same-sizes m mem t = refl
+
+still-open : (m : Machine) (mem : Memory) (t : ℕ) → isOpen m t ≡ true → isOpen (prepareNext m mem t) t ≡ true
+unfolding prepareNext
+still-open m mem t e = e
+
+-- nothing of t's is left to log: of each word that it holds no entry waits, and it is not ULog
+unfoldable pub AllPrepared : ℕ → Machine → Type 0
+AllPrepared t m =
+    (w : ℕ) → w < m .sizes .words → holderIn (m .lines) w ≡ t
+    → (entriesOf w (m .buffers .undoRedo) ≡ []) × ((entriesOf w (m .buffers .redo) ≡ []) × (stateIn (m .lines) w ≡ ULog → ⊥))
+
+-- so it is after what a commit logs before its record
+pub all-prepared : (m : Machine) (mem : Memory) (b : Book) (rs : List Record) (t : ℕ) → CoreOf m (mem .home) (mem .working) b rs → t < 8
+    → AllPrepared t (prepareNext m mem t)
+unfolding AllPrepared prepareNext newestWords keep
+all-prepared m mem b rs t core small w h mine =
+    let us : List Entry = m .buffers .undoRedo in
+    let ds : List Entry = m .buffers .redo in
+    let first = undos-logged us [] ds (m .lines) rs (rw (← (append-nil us)) at core) in
+    let second = redos-logged ds [] [] (allLogged us (m .lines)) _ (rw (← (append-nil ds)) at first) in
+    (refl, (refl, none-ulog t (isNewest t (m .lines)) second small (newest-after t core) w h (sym (holder-words URLog _ _ w) ∙ mine)))
+
+-- The commit record, of any machine in which nothing of t's is left to log; other threads' entries stay.
+module _ (m : Machine) (home working : List ℕ) (b : Book) (rs : List Record) (t : ℕ) (core : CoreOf m home working b rs) (small : t < 8)
+    (began : isOpen m t ≡ true) (prepared : AllPrepared t m) where
+  abbrev ls : List Line
+  ls = m .lines
+
+  -- another thread that is open still has stored nothing for a word that it does not hold
+  still-none : (w : ℕ) → w < m .sizes .words → (u : ℕ) → u < 8 → getD (set (m .opened) t false) u false ≡ true
+      → ((u ≡ t → ⊥) → u ≡ holderIn ls w → ⊥) → lastTo w (b .pending u) ≡ none
+  still-none w h u few begun apart =
+      elim (ℕ-discrete u t) [
         | yes e ↦
-            let own : Own w t rs = rw e at (core .own w h) in
-            let same : eqb (holderIn ls w) t ≡ true = eq-eqb (holderIn ls w) t e in
-            simp (
-              undo-of-own w t rs own,
-              redo-of-own w t rs own,
-              redos-commit,
-              settled-word,
-              holder-released t small ls,
-              dirty-released t small ls,
-              state-released t small ls,
-              same,
-            )
-            (rw e at (committed-word (lastTo w (p nobody)) (omega arith) (newest w h e) (core .word w h)))
+            let known : t < length (m .opened) = omega (arith, core .shape .threads) in
+            absurd (false≢true (sym (getD-set-same (m .opened) t false false known) ∙ rw e at begun))
+        | no ne ↦ core .at w h .others u few (sym (getD-set-other (m .opened) t u false false ne) ∙ begun) (apart ne)
+      ]
+
+  -- a word after it
+  closed-at : (w : ℕ) → w < m .sizes .words
+      → At (set (m .opened) t false) (rs ++ (Commit t ∷ [])) (b .pending) w (settled (b .committed) (b .pending t) w) (getD home w 0)
+      (getD working w 0) (holderIn (map (released t) ls) w) (dirtyIn (map (released t) ls) w) (stateIn (map (released t) ls) w)
+      (entriesOf w (m .buffers .undoRedo)) (entriesOf w (m .buffers .redo))
+  unfolding AllPrepared
+  closed-at w h =
+      let before = core .at w h in
+      rw (holder-released t small ls w, dirty-released t small ls w, state-released t small ls w, settled-word w (b .committed) (b .pending t))
+      (elim (ℕ-discrete (holderIn ls w) t) [
+        | yes e ↦
+            let left = prepared w h e in
+            let own : Own w t rs = rw e at (before .own) in
+            let newest = newest-known (before .word .state) (left .0) (left .1 .0) (left .1 .1) in
+            rw (eq-eqb (holderIn ls w) t e, left .0, left .1 .0)
+            (record {
+              own = own-closed w t nobody rs own;
+              others = λ u few begun apart. still-none w h u few begun (λ ne q. ne (q ∙ e));
+              word =
+                  rw (says-own w t (dirtyIn ls w) rs own)
+                  (rw e at (committed-word (lastTo w (b .pending nobody)) (rw e small) newest (before .word)));
+            })
         | no ne ↦
             let other : t ≡ holderIn ls w → ⊥ = λ e. ne (sym e) in
-            let apart : eqb (holderIn ls w) t ≡ false = ne-eqb (holderIn ls w) t ne in
-            simp (
-              undo-of-other w (holderIn ls w) t rs (core .own w h) other,
-              redo-of-other w (holderIn ls w) t rs (core .own w h) other,
-              redos-commit,
-              settled-word,
-              core .others w h t small began other,
-              holder-released t small ls,
-              dirty-released t small ls,
-              state-released t small ls,
-              apart,
-            )
-            (core .word w h)
-      ]
+            rw (ne-eqb (holderIn ls w) t ne)
+            (record {
+              own = own-commit w (holderIn ls w) t rs (before .own);
+              others = λ u few begun apart. still-none w h u few begun (λ _ q. apart q);
+              word =
+                  rw (says-other w (holderIn ls w) t (dirtyIn ls w) rs (before .own) other, before .others t small began other)
+                  (before .word);
+            })
+      ])
 
-  -- an open record of a word is its holder's still
-  committed-holder : (w : ℕ) → w < words → Own w (holderIn (map (released t) ls) w) (rs ++ (Commit t ∷ []))
-  committed-holder w h =
-      elim (ℕ-discrete (holderIn ls w) t) [
-        | yes e ↦ own-closed w t (holderIn (map (released t) ls) w) rs (rw e at (core .own w h))
-        | no ne ↦
-            rw (holder-released t small ls w, ne-eqb (holderIn ls w) t ne) (own-commit w (holderIn ls w) t rs (core .own w h))
-      ]
-
-  -- another thread that is open still has filed nothing for a word that it does not hold
-  committed-others : (w : ℕ) → w < words → (u : ℕ) → u < 8 → getD (set opened t false) u false ≡ true
-      → (u ≡ holderIn (map (released t) ls) w → ⊥) → lastTo w (p u) ≡ none
-  committed-others w h u few begun apart =
-      elim (ℕ-discrete u t) [
-        | yes e ↦ absurd (false≢true (sym (getD-set-same opened t false false (omega arith)) ∙ rw e at begun))
-        | no ne ↦
-            core .others w h u few (sym (getD-set-other opened t u false false ne) ∙ begun)
-            (λ q. apart (q ∙ sym (holder-released t small ls w ∙ rw (ne-eqb (holderIn ls w) t (λ e. ne (q ∙ e))))))
-      ]
-
-  -- the invariant after the commit record
-  committed : 0 < words
-      → Core words (set opened t false) (map (released t) ls) [] [] (rs ++ (Commit t ∷ [])) home working (settled s (p t)) p
-  committed wide =
+  pub close-step : 0 < m .sizes .words → Appends m home b rs (Commit t ∷ []) (closeNext t m) working (entered (commit t) b)
+  unfolding entered
+  close-step wide =
       record {
-        lineCount = core .lineCount ∙ ap (λ n. 8 * n) (sym (length-map ls (released t)));
-        homeSize = core .homeSize;
-        workingSize = core .workingSize;
-        threads = length-set opened t false ∙ core .threads;
-        undoSize = core .undoSize;
-        redoSize = core .redoSize;
-        undoOk = tt;
-        redoOk = tt;
-        linesOk =
-            every-mapped (LineOk (set opened t false)) (released t) ls
-            (every-implied (LineOk opened) (λ line. LineOk (set opened t false) (released t line)) ls (line-committed opened t) (core .linesOk));
-        valid = every-append (Valid words) rs (Commit t ∷ []) (core .valid) (record { thread = small; word = wide }, tt);
-        own = committed-holder;
-        others = committed-others;
-        word = committed-in;
+        safe = λ k h. let none : k ≡ 0 = omega arith in rw (none, append-nil) (core-safe core);
+        core =
+            record {
+              shape =
+                  shape-owners (core .shape) (length-map ls (released t)) (length-set (m .opened) t false)
+                  (every-mapped (LineOk (set (m .opened) t false)) (released t) ls
+                  (every-implied (LineOk (m .opened)) (λ line. LineOk (set (m .opened) t false) (released t line)) ls (line-committed (m .opened) t)
+                  (core .shape .linesOk)));
+              valid = every-append (Valid (m .sizes .words)) rs (Commit t ∷ []) (core .valid) (record { thread = small; word = wide }, tt);
+              at = closed-at;
+            };
       }
 
--- commit t
+-- commit t: the one, then the other
 pub commit-step : (m : Machine) (mem : Memory) (b : Book) (rs : List Record) (t : ℕ) → CoreOf m (mem .home) (mem .working) b rs
-    → 0 < m .words → t < 8 → isOpen m t ≡ true
-    → Appends m (mem .home) b rs (commitRecords m mem t)
-    (withTail (m .tail + length (commitRecords m mem t))
-    (withOpened (set (m .opened) t false)
-    (withLines (map (released t) (undosLogged (length (m .undoRedo)) m .lines)) (withRedo [] (undosLogged (length (m .undoRedo)) m)))))
-    (mem .working) (entered (commit t) b)
-unfolding commitRecords newestRedos entered
-commit-step m mem b rs t core wide thread began =
-    let us = m .undoRedo in
-    let ds = m .redo in
-    let ls = allLogged us (m .lines) in
-    let test = isNewest t (m .lines) in
-    let xs = map undoRedoRecord us in
-    let ys = map redoRecord ds in
-    let zs = newestOf t test (m .words) (mem .working) in
-    let start = rw (← (append-nil us)) at core in
-    let first = undos-logged us [] ds (m .lines) rs start in
-    let second = redos-logged ds [] [] ls (rs ++ xs) (rw (← (append-nil ds)) at first) in
-    let third = newest-logged t test second thread (newest-after t core) in
-    let last = committed t thread began third (newest-value t test second thread (newest-after t core) refl refl) wide in
-    let safe : List Record → Type 0 = λ r. Safe (m .words) r (mem .home) (b .committed) in
-    record {
-      safe =
-          some-of-both safe rs xs (ys ++ (zs ++ (Commit t ∷ []))) (λ k. undos-safe k us [] ds (m .lines) rs start)
-          (some-of-both safe (rs ++ xs) ys (zs ++ (Commit t ∷ [])) (λ k. redos-safe k ds [] [] ls (rs ++ xs) (rw (← (append-nil ds)) at first))
-          (some-of-both safe ((rs ++ xs) ++ ys) zs (Commit t ∷ []) (newest-safe t test second)
-          (λ k h. let before : k ≡ 0 = omega arith in rw (before, append-nil) (core-safe third))));
-      core =
-          subst₂
-          (λ l es.
-          Core (m .words) (set (m .opened) t false) l es [] (rs ++ commitRecords m mem t) (mem .home) (mem .working)
-          (settled (b .committed) (b .pending t)) (b .pending))
-          (ap (λ es. map (released t) (allLogged es (m .lines))) (sym (take-length us)))
-          (sym (drop-length us))
-          (simp append-assoc at last);
-    }
+    → 0 < m .sizes .words → t < 8 → isOpen m t ≡ true
+    → Appends m (mem .home) b rs (commitRecords m mem t) (commitNext m mem t) (mem .working) (entered (commit t) b)
+unfolding commitRecords
+commit-step m mem b rs t core wide small began =
+    let first = prepare-step m mem b rs t core small in
+    appends-then first
+    (close-step (prepareNext m mem t) (mem .home) (mem .working) b (rs ++ prepareRecords m mem t) t (first .core) small (still-open m mem t began)
+    (all-prepared m mem b rs t core small) (rw (same-sizes m mem t) wide))
+    (same-sizes m mem t)

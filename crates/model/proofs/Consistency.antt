@@ -4,7 +4,6 @@ use mathlib.Core.Path.{_≡_, refl}
 use mathlib.Core.Bool.{Bool, true, false, cond, _&&_, _||_, not}
 use mathlib.Core.List.{List, [], _∷_}
 use mathlib.Core.Logic.{⊎-elim}
-use mathlib.Core.Option.{Option}
 use native.Mathlib.Omega.{arith}
 use borrow.Author.Tests.{lt-ltb, le-leb, eq-eqb, ne-eqb}
 use lib.Dec.{eqb, ltb}
@@ -22,7 +21,7 @@ use Rattle.model.specs.Consistent.{isWidth, entriesOf, lineLimits, entry
 use Rattle.model.specs.Consistent.{dirtyWait, redoClean, entriesHeld, holdersOpen, freeClean}
 use Rattle.model.specs.Book.{Book}
 use Rattle.model.proofs.Lists.{every-listed}
-use Rattle.model.proofs.Core.{State, clean, cleanWaiting, changed, urlog, ulog, EntryOk, LineOk, CoreOf}
+use Rattle.model.proofs.Core.{Says, State, clean, cleanWaiting, changed, urlog, ulog, EntryOk, LineOk, CoreOf}
 
 -- two tests that both pass
 pub both : {a b : Bool} → a ≡ true → b ≡ true → (a && b) ≡ true
@@ -54,9 +53,9 @@ pub record Waits (wanted st h : ℕ) (es : List Entry) (e : Entry) : Type 0 wher
   pub alone : length es ≡ 1
   pub thread : e .thread ≡ h
 
-module _ {undo new : Option ℕ} {s hm x h st : ℕ} {dirty : Bool} {us ds : List Entry} where
+module _ {g : Says} {s hm x h st : ℕ} {dirty : Bool} {us ds : List Entry} where
   -- an undo+redo entry waits for a Dirty word
-  waits-dirty : State undo new s hm x h dirty st us ds → Every (Waits Dirty st h us) us
+  waits-dirty : State g s hm x h dirty st us ds → Every (Waits Dirty st h us) us
   waits-dirty (clean c u d o n) = rw u tt
   waits-dirty (cleanWaiting e c u d t r o) = rw u tt
   waits-dirty (changed e c u d t r o y) = rw u (record { state = c; alone = refl; thread = t }, tt)
@@ -64,7 +63,7 @@ module _ {undo new : Option ℕ} {s hm x h st : ℕ} {dirty : Bool} {us ds : Lis
   waits-dirty (ulog c u d o) = rw u tt
 
   -- a redo entry waits for a Clean one
-  waits-clean : State undo new s hm x h dirty st us ds → Every (Waits Clean st h ds) ds
+  waits-clean : State g s hm x h dirty st us ds → Every (Waits Clean st h ds) ds
   waits-clean (clean c u d o n) = rw d tt
   waits-clean (cleanWaiting e c u d t r o) = rw d (record { state = c; alone = refl; thread = t }, tt)
   waits-clean (changed e c u d t r o y) = rw d tt
@@ -72,7 +71,7 @@ module _ {undo new : Option ℕ} {s hm x h st : ℕ} {dirty : Bool} {us ds : Lis
   waits-clean (ulog c u d o) = rw d tt
 
   -- a Dirty word has one undo+redo entry
-  dirty-waits : State undo new s hm x h dirty st us ds → (not (eqb st Dirty) || eqb (length us) 1) ≡ true
+  dirty-waits : State g s hm x h dirty st us ds → (not (eqb st Dirty) || eqb (length us) 1) ≡ true
   dirty-waits (clean c u d o n) = rw c
   dirty-waits (cleanWaiting e c u d t r o) = rw c
   dirty-waits (changed e c u d t r o y) = rw (c, u)
@@ -129,35 +128,35 @@ module _ (wanted : ℕ) (ls : List Line) (es : List Entry) (waiting : AllWait wa
 
 module _ (m : Machine) (home working : List ℕ) (b : Book) (rs : List Record) (core : CoreOf m home working b rs) where
   -- undo+redo entries wait for Dirty words, redo entries for Clean ones
-  undos-wait : AllWait Dirty (m .lines) (m .undoRedo)
+  undos-wait : AllWait Dirty (m .lines) (m .buffers .undoRedo)
   undos-wait =
-      every-entry (m .words) (WaitsFor Dirty (m .lines) (m .undoRedo)) (m .undoRedo) (core .undoOk) (λ w h. waits-dirty (core .word w h .state))
+      every-entry (m .sizes .words) (WaitsFor Dirty (m .lines) (m .buffers .undoRedo)) (m .buffers .undoRedo) (core .shape .undos .ok) (λ w h. waits-dirty (core .at w h .word .state))
 
-  redos-wait : AllWait Clean (m .lines) (m .redo)
-  redos-wait = every-entry (m .words) (WaitsFor Clean (m .lines) (m .redo)) (m .redo) (core .redoOk) (λ w h. waits-clean (core .word w h .state))
+  redos-wait : AllWait Clean (m .lines) (m .buffers .redo)
+  redos-wait = every-entry (m .sizes .words) (WaitsFor Clean (m .lines) (m .buffers .redo)) (m .buffers .redo) (core .shape .redos .ok) (λ w h. waits-clean (core .at w h .word .state))
 
   -- a test that every line passes, and one that every word passes
   all-lines : (f : Line → Bool) → ((line : Line) → LineOk (m .opened) line → f line ≡ true) → all f (m .lines) ≡ true
-  all-lines f pass = all-true (LineOk (m .opened)) f (m .lines) pass (core .linesOk)
+  all-lines f pass = all-true (LineOk (m .opened)) f (m .lines) pass (core .shape .linesOk)
 
-  all-words : (f : ℕ → Bool) → ((w : ℕ) → w < m .words → f w ≡ true) → all f (upTo (m .words)) ≡ true
-  all-words f pass = all-true (λ w. f w ≡ true) f (upTo (m .words)) (λ w e. e) (every-listed (λ w. f w ≡ true) (m .words) (λ w. w) pass)
+  all-words : (f : ℕ → Bool) → ((w : ℕ) → w < m .sizes .words → f w ≡ true) → all f (upTo (m .sizes .words)) ≡ true
+  all-words f pass = all-true (λ w. f w ≡ true) f (upTo (m .sizes .words)) (λ w e. e) (every-listed (λ w. f w ≡ true) (m .sizes .words) (λ w. w) pass)
 
   -- the clauses on the buffers and the lines, each by its name in the definition
   dirty-wait : dirtyWait m ≡ true
   unfolding dirtyWait
   dirty-wait =
       both
-      (all-words (λ w. not (eqb (stateIn (m .lines) w) Dirty) || eqb (length (entriesOf w (m .undoRedo))) 1) (λ w h. dirty-waits (core .word w h .state)))
-      (all-in-state Dirty (m .lines) (m .undoRedo) undos-wait)
+      (all-words (λ w. not (eqb (stateIn (m .lines) w) Dirty) || eqb (length (entriesOf w (m .buffers .undoRedo))) 1) (λ w h. dirty-waits (core .at w h .word .state)))
+      (all-in-state Dirty (m .lines) (m .buffers .undoRedo) undos-wait)
 
   redo-clean : redoClean m ≡ true
   unfolding redoClean
-  redo-clean = all-alone Clean (m .lines) (m .redo) redos-wait
+  redo-clean = all-alone Clean (m .lines) (m .buffers .redo) redos-wait
 
   entries-held : entriesHeld m ≡ true
   unfolding entriesHeld
-  entries-held = both (all-held Dirty (m .lines) (m .undoRedo) undos-wait) (all-held Clean (m .lines) (m .redo) redos-wait)
+  entries-held = both (all-held Dirty (m .lines) (m .buffers .undoRedo) undos-wait) (all-held Clean (m .lines) (m .buffers .redo) redos-wait)
 
   holders-open : holdersOpen m ≡ true
   unfolding holdersOpen
@@ -168,29 +167,29 @@ module _ (m : Machine) (home working : List ℕ) (b : Book) (rs : List Record) (
   all-free-clean = all-lines _ (free-clean (m .opened))
 
   -- the numbers are within their limits
-  within-limits : isWidth (m .words) ≡ true → 8 ≤ m .slots → m .slots ≤ 1024 → m .head ≤ numbers → m .tail ≤ numbers → withinLimits m ≡ true
+  within-limits : isWidth (m .sizes .words) ≡ true → 8 ≤ m .sizes .slots → m .sizes .slots ≤ 1024 → m .span .head ≤ numbers → m .span .tail ≤ numbers → withinLimits m ≡ true
   unfolding withinLimits
   within-limits width least most head tail =
-      both (both width (both (le-leb 8 (m .slots) least) (le-leb (m .slots) 1024 most)))
-      (both (both (le-leb (m .head) numbers head) (le-leb (m .tail) numbers tail))
+      both (both width (both (le-leb 8 (m .sizes .slots) least) (le-leb (m .sizes .slots) 1024 most)))
+      (both (both (le-leb (m .span .head) numbers head) (le-leb (m .span .tail) numbers tail))
       (both (all-lines lineLimits (line-limits (m .opened)))
-      (both (both (le-leb (length (m .undoRedo)) 16 (core .undoSize)) (le-leb (length (m .redo)) 32 (core .redoSize)))
-      (both (entries (m .undoRedo) (core .undoOk)) (entries (m .redo) (core .redoOk))))))
+      (both (both (le-leb (length (m .buffers .undoRedo)) 16 (core .shape .undos .size)) (le-leb (length (m .buffers .redo)) 32 (core .shape .redos .size)))
+      (both (entries (m .buffers .undoRedo) (core .shape .undos .ok)) (entries (m .buffers .redo) (core .shape .redos .ok))))))
     where
-      entries : (es : List Entry) → Every (EntryOk (m .words)) es → all (entryLimits (m .words)) es ≡ true
-      entries es ok = all-true (EntryOk (m .words)) (entryLimits (m .words)) es (entry-limits (m .words)) ok
+      entries : (es : List Entry) → Every (EntryOk (m .sizes .words)) es → all (entryLimits (m .sizes .words)) es ≡ true
+      entries es ok = all-true (EntryOk (m .sizes .words)) (entryLimits (m .sizes .words)) es (entry-limits (m .sizes .words)) ok
 
 -- a machine that keeps the invariant, with its log's numbers in order, is consistent
 pub core-consistent : (m : Machine) (home working : List ℕ) (b : Book) (rs : List Record) (log : List ℕ) → CoreOf m home working b rs
-    → isWidth (m .words) ≡ true → 8 ≤ m .slots → m .slots ≤ 1024 → m .head + length rs ≤ numbers → length rs ≤ m .slots
-    → m .tail ≡ m .head + length rs → headOf log ≡ m .head → consistentWith m log ≡ true
+    → isWidth (m .sizes .words) ≡ true → 8 ≤ m .sizes .slots → m .sizes .slots ≤ 1024 → m .span .head + length rs ≤ numbers → length rs ≤ m .sizes .slots
+    → m .span .tail ≡ m .span .head + length rs → headOf log ≡ m .span .head → consistentWith m log ≡ true
 unfolding consistentWith consistent
 core-consistent m home working b rs log core width least most numbered room tail head =
     both
     (both (within-limits m home working b rs core width least most (omega arith) (omega arith))
-    (both (both (le-leb (m .head) (m .tail) (omega arith)) (le-leb (m .tail) (m .head + m .slots) (omega arith)))
+    (both (both (le-leb (m .span .head) (m .span .tail) (omega arith)) (le-leb (m .span .tail) (m .span .head + m .sizes .slots) (omega arith)))
     (both (dirty-wait m home working b rs core)
     (both (redo-clean m home working b rs core)
     (both (entries-held m home working b rs core)
     (both (holders-open m home working b rs core) (all-free-clean m home working b rs core)))))))
-    (eq-eqb (headOf log) (m .head) head)
+    (eq-eqb (headOf log) (m .span .head) head)

@@ -1,7 +1,7 @@
 -- The invariant of a machine that is not lost, word by word.
 use Prim.Native.Nat.{ℕ, _+_, _*_, _^_, _<_, _≤_}
-use mathlib.Core.Path.{_≡_}
-use mathlib.Core.Bool.{Bool, true, false}
+use mathlib.Core.Path.{_≡_, refl, sym, ap, _∙_}
+use mathlib.Core.Bool.{Bool, true, false, cond}
 use mathlib.Core.List.{List, [], _∷_, _++_}
 use mathlib.Core.Logic.{_⊎_}
 use mathlib.Core.Option.{Option, none, some}
@@ -20,29 +20,57 @@ use Rattle.model.specs.Recovery.{redoWrites, undoWrites}
 use Rattle.model.proofs.LastTo.{or, lastTo}
 use Rattle.model.proofs.Own.{redos, Own}
 
--- What holds of a word by its state. `undo` is the oldest undo of an open record of it, `new` the newest redo of any record of it; s is its
--- committed value, hm its home word, x its working word, h its holder; us and ds are its entries in the undo+redo and the redo buffer.
-pub data State (undo new : Option ℕ) (s hm x h : ℕ) (dirty : Bool) (st : ℕ) (us ds : List Entry) : Type 0 where
-  clean : st ≡ Clean → us ≡ [] → ds ≡ [] → or undo x ≡ s → or new hm ≡ x → State undo new s hm x h dirty st us ds
-  cleanWaiting : (e : Entry) → st ≡ Clean → us ≡ [] → ds ≡ e ∷ [] → e .thread ≡ h → e .redo ≡ x → or undo x ≡ s
-      → State undo new s hm x h dirty st us ds
-  changed : (e : Entry) → st ≡ Dirty → us ≡ e ∷ [] → ds ≡ [] → e .thread ≡ h → e .redo ≡ x → or undo (e .undo) ≡ s → dirty ≡ true
-      → State undo new s hm x h dirty st us ds
-  urlog : st ≡ URLog → us ≡ [] → ds ≡ [] → undo ≡ some s → or new hm ≡ x → State undo new s hm x h dirty st us ds
-  ulog : st ≡ ULog → us ≡ [] → ds ≡ [] → undo ≡ some s → State undo new s hm x h dirty st us ds
+-- What the log says of a word: the oldest undo of an open record of it, the newest redo of a closed one and of any; and both newest redos
+-- of the recent records alone.
+pub record Says : Type 0 where
+  pub undo : Option ℕ
+  pub redo : Option ℕ
+  pub new : Option ℕ
+  pub lateRedo : Option ℕ
+  pub late : Option ℕ
+
+-- the records that the last write-back of a line does not cover: all if the line is dirty, else none
+abbrev pub recent : Bool → List Record → List Record
+recent dirty rs = cond dirty rs []
+
+abbrev pub says : ℕ → Bool → List Record → Says
+says w dirty rs =
+    record {
+      undo = lastTo w (undoWrites rs);
+      redo = lastTo w (redoWrites rs);
+      new = lastTo w (redos rs);
+      lateRedo = lastTo w (redoWrites (recent dirty rs));
+      late = lastTo w (redos (recent dirty rs));
+    }
+
+-- The newest value of a word is its working one: no redo is newer, and the recent records, else its home word, have it.
+pub record Newest (g : Says) (hm x : ℕ) : Type 0 where
+  pub any : or (g .new) x ≡ x
+  pub home : or (g .late) hm ≡ x
+
+-- What holds of a word by its state. g is what the log says of it, s its committed value, hm its home word, x its working word, h its holder;
+-- us and ds are its entries in the undo+redo and the redo buffer.
+pub data State (g : Says) (s hm x h : ℕ) (dirty : Bool) (st : ℕ) (us ds : List Entry) : Type 0 where
+  clean : st ≡ Clean → us ≡ [] → ds ≡ [] → or (g .undo) x ≡ s → Newest g hm x → State g s hm x h dirty st us ds
+  cleanWaiting : (e : Entry) → st ≡ Clean → us ≡ [] → ds ≡ e ∷ [] → e .thread ≡ h → e .redo ≡ x → or (g .undo) x ≡ s
+      → State g s hm x h dirty st us ds
+  changed : (e : Entry) → st ≡ Dirty → us ≡ e ∷ [] → ds ≡ [] → e .thread ≡ h → e .redo ≡ x → or (g .undo) (e .undo) ≡ s → dirty ≡ true
+      → State g s hm x h dirty st us ds
+  urlog : st ≡ URLog → us ≡ [] → ds ≡ [] → g .undo ≡ some s → Newest g hm x → State g s hm x h dirty st us ds
+  ulog : st ≡ ULog → us ≡ [] → ds ≡ [] → g .undo ≡ some s → State g s hm x h dirty st us ds
 
 -- Who holds the word's line: nobody, and its working word is the committed one; or a thread, and its working word is the last value that this
--- thread filed (`mine`), else the committed one.
+-- thread stored (`mine`), else the committed one.
 pub data Holding (mine : Option ℕ) (s x h st : ℕ) (us ds : List Entry) : Type 0 where
   free : h ≡ nobody → x ≡ s → st ≡ Clean → us ≡ [] → ds ≡ [] → Holding mine s x h st us ds
   held : h < 8 → x ≡ or mine s → Holding mine s x h st us ds
 
--- All that holds of one word. `redo` is the newest redo of a closed record of it.
-pub record Word (undo redo new mine : Option ℕ) (s hm x h : ℕ) (dirty : Bool) (st : ℕ) (us ds : List Entry) : Type 0 where
-  pub crash : or undo (or redo hm) ≡ s
-  pub closed : or redo s ≡ s
-  pub calm : dirty ≡ false → hm ≡ x
-  pub state : State undo new s hm x h dirty st us ds
+-- All that holds of one word. `calm` is what a flag that is not set says; the rest speaks of the recent records alone.
+pub record Word (g : Says) (mine : Option ℕ) (s hm x h : ℕ) (dirty : Bool) (st : ℕ) (us ds : List Entry) : Type 0 where
+  pub crash : or (g .undo) (or (g .lateRedo) hm) ≡ s
+  pub closed : or (g .redo) s ≡ s
+  pub calm : dirty ≡ false → or (g .late) hm ≡ x
+  pub state : State g s hm x h dirty st us ds
   pub holder : Holding mine s x h st us ds
 
 -- an entry's numbers are within their limits
@@ -50,29 +78,79 @@ pub record EntryOk (words : ℕ) (e : Entry) : Type 0 where
   pub thread : e .thread < 8
   pub word : e .word < words
 
+-- a buffer's entries are few enough and within their limits
+pub record Entries (words limit : ℕ) (es : List Entry) : Type 0 where
+  pub size : length es ≤ limit
+  pub ok : Every (EntryOk words) es
+
 -- a line is free and all Clean, or a thread with an open transaction holds it
 pub record LineOk (opened : List Bool) (line : Line) : Type 0 where
   pub states : line .states < 2 ^ 16
   pub holder : ((line .holder ≡ nobody) × (line .states ≡ 0)) ⊎ ((line .holder < 8) × (getD opened (line .holder) false ≡ true))
 
--- The invariant, of the parts of a machine, the records in the log, home and working words, and the book.
-pub record Core (words : ℕ) (opened : List Bool) (lines : List Line) (us ds : List Entry) (rs : List Record) (home working : List ℕ)
-    (s : ℕ → ℕ) (p : ℕ → List Store) : Type 0 where
+-- the numbers of a machine's parts, and of its home and working words
+pub record Shape (words : ℕ) (opened : List Bool) (lines : List Line) (us ds : List Entry) (home working : List ℕ) : Type 0 where
   pub lineCount : words ≡ 8 * length lines
   pub homeSize : length home ≡ words
   pub workingSize : length working ≡ words
   pub threads : length opened ≡ 8
-  pub undoSize : length us ≤ 16
-  pub redoSize : length ds ≤ 32
-  pub undoOk : Every (EntryOk words) us
-  pub redoOk : Every (EntryOk words) ds
   pub linesOk : Every (LineOk opened) lines
+  pub undos : Entries words 16 us
+  pub redos : Entries words 32 ds
+
+-- All that holds of word w of a machine: of its open records, of what other threads stored, and of the word itself.
+pub record At (opened : List Bool) (rs : List Record) (p : ℕ → List Store) (w s hm x h : ℕ) (dirty : Bool) (st : ℕ) (us ds : List Entry) : Type 0 where
+  pub own : Own w h rs
+  pub others : (t : ℕ) → t < 8 → getD opened t false ≡ true → (t ≡ h → ⊥) → lastTo w (p t) ≡ none
+  pub word : Word (says w dirty rs) (lastTo w (p h)) s hm x h dirty st us ds
+
+-- The invariant, of the parts of a machine, the records in the log, home and working words, and the book. A step shows what it changes of the
+-- shape, by the laws below, of the records, and of each word.
+pub record Core (words : ℕ) (opened : List Bool) (ls : List Line) (us ds : List Entry) (rs : List Record) (home working : List ℕ)
+    (s : ℕ → ℕ) (p : ℕ → List Store) : Type 0 where
+  pub shape : Shape words opened ls us ds home working
   pub valid : Every (Valid words) rs
-  pub own : (w : ℕ) → w < words → Own w (holderIn lines w) rs
-  pub others : (w : ℕ) → w < words → (t : ℕ) → t < 8 → getD opened t false ≡ true → (t ≡ holderIn lines w → ⊥) → lastTo w (p t) ≡ none
-  pub word : (w : ℕ) → w < words
-      → Word (lastTo w (undoWrites rs)) (lastTo w (redoWrites rs)) (lastTo w (redos rs)) (lastTo w (p (holderIn lines w))) (s w)
-      (getD home w 0) (getD working w 0) (holderIn lines w) (dirtyIn lines w) (stateIn lines w) (entriesOf w us) (entriesOf w ds)
+  pub at : (w : ℕ) → w < words
+      → At opened rs p w (s w) (getD home w 0) (getD working w 0) (holderIn ls w) (dirtyIn ls w) (stateIn ls w) (entriesOf w us) (entriesOf w ds)
+
+module _ {words : ℕ} {opened : List Bool} {ls : List Line} {us ds : List Entry} {home working : List ℕ}
+    (shape : Shape words opened ls us ds home working) where
+  -- other lines and other open transactions
+  pub shape-owners : {ls′ : List Line} {opened′ : List Bool} → length ls′ ≡ length ls → length opened′ ≡ length opened → Every (LineOk opened′) ls′
+      → Shape words opened′ ls′ us ds home working
+  shape-owners same still ok =
+      record {
+        lineCount = shape .lineCount ∙ ap (λ n. 8 * n) (sym same);
+        homeSize = shape .homeSize;
+        workingSize = shape .workingSize;
+        threads = still ∙ shape .threads;
+        linesOk = ok;
+        undos = shape .undos;
+        redos = shape .redos;
+      }
+
+  pub shape-lines : {ls′ : List Line} → length ls′ ≡ length ls → Every (LineOk opened) ls′ → Shape words opened ls′ us ds home working
+  shape-lines same ok = shape-owners same refl ok
+
+  pub shape-opened : {opened′ : List Bool} → length opened′ ≡ length opened → Every (LineOk opened′) ls → Shape words opened′ ls us ds home working
+  shape-opened still ok = shape-owners refl still ok
+
+  -- other entries, home and working words
+  pub shape-words : {us′ ds′ : List Entry} {home′ working′ : List ℕ} → Entries words 16 us′ → Entries words 32 ds′
+      → length home′ ≡ length home → length working′ ≡ length working → Shape words opened ls us′ ds′ home′ working′
+  shape-words inUndo inRedo sameHome sameWorking =
+      record {
+        lineCount = shape .lineCount;
+        homeSize = sameHome ∙ shape .homeSize;
+        workingSize = sameWorking ∙ shape .workingSize;
+        threads = shape .threads;
+        linesOk = shape .linesOk;
+        undos = inUndo;
+        redos = inRedo;
+      }
+
+  pub shape-entries : {us′ ds′ : List Entry} → Entries words 16 us′ → Entries words 32 ds′ → Shape words opened ls us′ ds′ home working
+  shape-entries inUndo inRedo = shape-words inUndo inRedo refl refl
 
 -- What a power cut leaves: recovery would bring every word's committed value home.
 unfoldable pub Safe : ℕ → List Record → List ℕ → (ℕ → ℕ) → Type 0
@@ -81,15 +159,27 @@ Safe words rs home s = (w : ℕ) → w < words → or (lastTo w (undoWrites rs))
 -- the invariant of a machine with its home and working words and the book
 abbrev pub CoreOf : Machine → List ℕ → List ℕ → Book → List Record → Type 0
 CoreOf m home working b rs =
-    Core (m .words) (m .opened) (m .lines) (m .undoRedo) (m .redo) rs home working (b .committed) (b .pending)
+    Core (m .sizes .words) (m .opened) (m .lines) (m .buffers .undoRedo) (m .buffers .redo) rs home working (b .committed) (b .pending)
 
 -- What a step that only appends records has to show: before all of them are there a power cut is safe, and after all the invariant holds.
 pub record Appends (m : Machine) (home : List ℕ) (b : Book) (rs new : List Record) (next : Machine) (working : List ℕ) (book : Book) : Type 0 where
-  pub safe : (k : ℕ) → k < length new → Safe (m .words) (rs ++ take k new) home (b .committed)
+  pub safe : (k : ℕ) → k < length new → Safe (m .sizes .words) (rs ++ take k new) home (b .committed)
   pub core : CoreOf next home working book (rs ++ new)
+
+-- what recovery would leave of a word, once the recent records alone bring its committed value home
+pub or-recent : (undo redo : Option ℕ) (hm s : ℕ) → or undo hm ≡ s → or redo s ≡ s → or undo (or redo hm) ≡ s
+or-recent none redo hm s e c = ap (or redo) e ∙ c
+or-recent (some a) redo hm s e c = e
+
+pub crash-all : (w : ℕ) (dirty : Bool) (rs : List Record) (hm s : ℕ) → or (lastTo w (undoWrites rs)) (or (lastTo w (redoWrites (recent dirty rs))) hm) ≡ s
+    → or (lastTo w (redoWrites rs)) s ≡ s → or (lastTo w (undoWrites rs)) (or (lastTo w (redoWrites rs)) hm) ≡ s
+unfolding redoWrites lastTo
+crash-all w true rs hm s e c = e
+crash-all w false rs hm s e c = or-recent (lastTo w (undoWrites rs)) (lastTo w (redoWrites rs)) hm s e c
 
 -- a machine that is not lost is safe too
 pub core-safe : {words : ℕ} {opened : List Bool} {ls : List Line} {us ds : List Entry} {rs : List Record} {home working : List ℕ}
     {s : ℕ → ℕ} {p : ℕ → List Store} → Core words opened ls us ds rs home working s p → Safe words rs home s
 unfolding Safe
-core-safe core w h = core .word w h .crash
+core-safe {ls = ls} {rs = rs} {home = home} {s = s} core w h =
+    crash-all w (dirtyIn ls w) rs (getD home w 0) (s w) (core .at w h .word .crash) (core .at w h .word .closed)

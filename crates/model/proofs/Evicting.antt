@@ -22,17 +22,17 @@ use Rattle.parts.specs.States.{stateAt, Clean, Dirty, ULog}
 use Rattle.parts.proofs.Listed.{length-listed, getD-listed}
 use Rattle.parts.proofs.States.{state-clean}
 use Rattle.model.specs.Lists.{keep, any}
-use Rattle.model.specs.Machine.{Machine, Memory, withLines, withRedo, lineOf, stateIn, holderIn, dirtyIn, wordsOf, changed, statesAs}
+use Rattle.model.specs.Machine.{Machine, Memory, lineOf, stateIn, holderIn, dirtyIn, wordsOf, changed, statesAs}
 use Rattle.model.specs.Consistent.{entriesOf}
 use Rattle.model.specs.Refusals.{isPending}
-use Rattle.model.specs.Steps.{redoRecord, redosLogged, evicted}
+use Rattle.model.specs.Steps.{redoRecord, evicted, evictRecords, evictNext}
 use Rattle.model.specs.Book.{Book}
 use Rattle.model.proofs.Lists.{every-kept, every-listed, every-mapped, take-map}
 use Rattle.model.proofs.Records.{both-fail}
 use Rattle.model.proofs.Lines.{line-changed, kept-changed, length-changed, every-changed}
 use Rattle.model.proofs.Entries.{entries-append, entries-made, kept-once}
-use Rattle.model.proofs.Core.{State, clean, cleanWaiting, urlog, ulog, Holding, free, held, Word}
-use Rattle.model.proofs.Core.{EntryOk, LineOk, Core, CoreOf, Appends, core-safe}
+use Rattle.model.proofs.Core.{Says, State, clean, cleanWaiting, urlog, ulog, Holding, free, held, Word}
+use Rattle.model.proofs.Core.{EntryOk, LineOk, Core, CoreOf, Appends, core-safe, shape-lines, shape-entries}
 use Rattle.model.proofs.Logging.{redos-logged}
 
 -- no element passes the test: each fails it
@@ -141,8 +141,8 @@ not-dirty m i w calm e d =
 
 module _ {s x h : ℕ} {st : ℕ} {us ds : List Entry} (e : Entry) where
   -- a word after its line is evicted: it is Clean, and if it was ULog, a redo entry of its working value waits
-  state-evicted : {undo new : Option ℕ} {hm : ℕ} {dirty : Bool} → e .thread ≡ h → e .redo ≡ x → (st ≡ Dirty → ⊥) → State undo new s hm x h dirty st us ds
-      → State undo new s hm x h dirty Clean us (ds ++ cond (eqb st ULog) (e ∷ []) [])
+  state-evicted : {g : Says} {hm : ℕ} {dirty : Bool} → e .thread ≡ h → e .redo ≡ x → (st ≡ Dirty → ⊥) → State g s hm x h dirty st us ds
+      → State g s hm x h dirty Clean us (ds ++ cond (eqb st ULog) (e ∷ []) [])
   state-evicted mine now calm (clean a b c d f) = clean refl b (rw (a, c)) d f
   state-evicted mine now calm (cleanWaiting o a b c d f g) = cleanWaiting o refl b (rw (a, c)) d f g
   state-evicted mine now calm (State.changed o a b c d f g k) = absurd (calm a)
@@ -153,9 +153,9 @@ module _ {s x h : ℕ} {st : ℕ} {us ds : List Entry} (e : Entry) where
   holding-evicted (free a b c d f) = free a b refl d (rw (c, f))
   holding-evicted (held a b) = held a b
 
-  word-evicted : {undo redo new mine : Option ℕ} {hm : ℕ} {dirty : Bool}
-      → e .thread ≡ h → e .redo ≡ x → (st ≡ Dirty → ⊥) → Word undo redo new mine s hm x h dirty st us ds
-      → Word undo redo new mine s hm x h dirty Clean us (ds ++ cond (eqb st ULog) (e ∷ []) [])
+  word-evicted : {g : Says} {mine : Option ℕ} {hm : ℕ} {dirty : Bool}
+      → e .thread ≡ h → e .redo ≡ x → (st ≡ Dirty → ⊥) → Word g mine s hm x h dirty st us ds
+      → Word g mine s hm x h dirty Clean us (ds ++ cond (eqb st ULog) (e ∷ []) [])
   word-evicted mine now calm word =
       record {
         crash = word .crash;
@@ -177,46 +177,51 @@ module _ {words : ℕ} {opened : List Bool} {home working : List ℕ} {s : ℕ �
       → length ds + length (added ls working i) ≤ 32
       → Core words opened (changed (statesAs 0) i ls) us (ds ++ added ls working i) rs home working s p
   line-evicted i core line calm room =
-      let inside : i < length ls = omega arith in
+      let inside : i < length ls = omega (arith, core .shape .lineCount) in
       let new : List Entry = added ls working i in
       record {
-        lineCount = rw length-changed (core .lineCount);
-        homeSize = core .homeSize;
-        workingSize = core .workingSize;
-        threads = core .threads;
-        undoSize = core .undoSize;
-        redoSize = rw length-append room;
-        undoOk = core .undoOk;
-        redoOk = every-append (EntryOk words) ds new (core .redoOk) (added-ok words opened ls working i (core .lineCount) inside (core .linesOk));
-        linesOk = every-changed (LineOk opened) (statesAs 0) i ls (core .linesOk)
-            (λ h ok. record { states = omega arith; holder = elim (ok .holder) [ inl q ↦ inl (q .0, refl) | inr q ↦ inr q ] });
+        shape =
+            shape-entries
+            (shape-lines (core .shape) (length-changed (statesAs 0) i ls)
+            (every-changed (LineOk opened) (statesAs 0) i ls (core .shape .linesOk)
+            (λ h ok. record { states = omega arith; holder = elim (ok .holder) [ inl q ↦ inl (q .0, refl) | inr q ↦ inr q ] })))
+            (core .shape .undos)
+            (record {
+              size = rw length-append room;
+              ok =
+                  every-append (EntryOk words) ds new (core .shape .redos .ok)
+                  (added-ok words opened ls working i (core .shape .lineCount) inside (core .shape .linesOk));
+            });
         valid = core .valid;
-        own = λ w h. rw holder-cleaned (core .own w h);
-        others = λ w h. rw holder-cleaned (core .others w h);
-        word = λ w h.
+        at = λ w h.
+            let before = core .at w h in
             rw (holder-cleaned i ls w, dirty-cleaned i ls w, state-cleaned i ls w inside, entries-append w ds new, entries-added ls working i w)
             (elim (ℕ-discrete (w / 8) i) [
-              | yes e ↦ rw (eq-eqb (w / 8) i e) (word-evicted (entryOf ls working i w) (holder-at ls i w e) refl (calm w e) (core .word w h))
-              | no ne ↦ rw (ne-eqb (w / 8) i ne, append-nil) (core .word w h)
+              | yes e ↦
+                  rw (eq-eqb (w / 8) i e)
+                  (record {
+                    own = before .own;
+                    others = before .others;
+                    word = word-evicted (entryOf ls working i w) (holder-at ls i w e) refl (calm w e) (before .word);
+                  })
+              | no ne ↦ rw (ne-eqb (w / 8) i ne, append-nil) before
             ]);
       }
 
--- the machine after line i is evicted, its new redo entries being there and k old ones logged
+-- the machine after line i is evicted, its new redo entries being there and the oldest logged
 pub evict-step : (m : Machine) (mem : Memory) (b : Book) (rs : List Record) (i : ℕ) → CoreOf m (mem .home) (mem .working) b rs
-    → i < m .words / 8 → isPending m i ≡ false
-    → Appends m (mem .home) b rs (map redoRecord (take (length (m .redo) + length (evicted m mem i) - 32) (m .redo)))
-    (withLines (changed (statesAs 0) i (m .lines))
-    (withRedo (drop (length (m .redo) + length (evicted m mem i) - 32) (m .redo) ++ evicted m mem i)
-    (redosLogged (length (m .redo) + length (evicted m mem i) - 32) m)))
-    (mem .working) b
+    → i < m .sizes .words / 8 → isPending m i ≡ false
+    → Appends m (mem .home) b rs (evictRecords m mem i) (evictNext m mem i) (mem .working) b
 unfolding evicted
 evict-step m mem b rs i core line calm =
     let new : List Entry = added (m .lines) (mem .working) i in
-    let k : ℕ = length (m .redo) + length new - 32 in
+    let ds : List Entry = m .buffers .redo in
+    let k : ℕ = length ds + length new - 32 in
     let few : length new ≤ 8 = few-added (m .lines) (mem .working) i in
+    let size = core .shape .redos .size in
     record {
       safe = λ j h.
-          let below : j ≤ k = omega (arith, length-map (take k (m .redo)) redoRecord, length-take k (m .redo)) in
-          rw (take-map redoRecord j (take k (m .redo)), take-take j k (m .redo) below) (core-safe (logged j core));
+          let below : j ≤ k = omega (arith, length-map (take k ds) redoRecord, length-take k ds) in
+          rw (take-map redoRecord j (take k ds), take-take j k ds below) (core-safe (logged j core));
       core = line-evicted i (logged k core) line (λ w e. not-dirty m i w calm e) (rw length-drop (omega arith));
     }

@@ -20,8 +20,9 @@ use Rattle.parts.specs.Lines.{nobody, freeLine}
 use Rattle.parts.specs.States.{Clean, Dirty, stateAt}
 use Rattle.parts.proofs.States.{state-clean}
 use Rattle.model.specs.Lists.{keep, any, isEmpty}
-use Rattle.model.specs.Machine.{Machine, freshMachine, withLines, lineOf, stateIn, holderIn, dirtyIn, wordsOf, changed, dirtyAs}
+use Rattle.model.specs.Machine.{Machine, freshMachine, lineOf, stateIn, holderIn, dirtyIn, wordsOf, changed, dirtyAs}
 use Rattle.model.specs.Refusals.{isPending}
+use Rattle.model.specs.Steps.{lineWrites, writeBackNext}
 use Rattle.model.specs.Recovery.{redoWrites, undoWrites, recoveryWrites}
 use Rattle.model.specs.Book.{Book}
 use Rattle.model.proofs.LastTo.{first, or, lastTo, or-first, first-none, last-append, stored-word}
@@ -31,15 +32,11 @@ use Rattle.model.proofs.Lines.{line-changed, kept-changed, length-chang
 use Rattle.model.proofs.Entries.{kept-once}
 use Rattle.model.proofs.Lists.{take-map}
 use Rattle.model.proofs.Evicting.{not-dirty}
-use Rattle.model.proofs.Core.{State, clean, cleanWaiting, urlog, ulog, free, Word, LineOk, CoreOf, Safe}
+use Rattle.model.proofs.Core.{Says, State, clean, cleanWaiting, urlog, ulog, free, Word, LineOk, CoreOf, Safe, or-recent, core-safe, shape-lines, shape-words}
 
 -- the store of a word's working value
 abbrev written : List ℕ → ℕ → Store
 written working w = record { at = w; value = getD working w 0 }
-
--- what writing line i back stores
-abbrev pub lineWrites : List ℕ → ℕ → List Store
-lineWrites working i = map (written working) (wordsOf i)
 
 -- the number is in the list
 abbrev has : ℕ → List ℕ → Bool
@@ -95,38 +92,37 @@ has-line i w =
           ]
     ]
 
--- a choice made twice, and two choices where the second changes nothing
+-- a choice made twice
 or-again : (o : Option ℕ) (v x : ℕ) → or o v ≡ x → or o x ≡ x
 or-again none v x e = refl
 or-again (some a) v x e = e
 
-or-past : (undo redo : Option ℕ) (x s : ℕ) → or undo x ≡ s → or redo s ≡ s → or undo (or redo x) ≡ s
-or-past none redo x s e c = ap (or redo) e ∙ c
-or-past (some a) redo x s e c = e
+-- what the log says of a word that was just written back
+abbrev covered : Says → Says
+covered g = record { undo = g .undo; redo = g .redo; new = g .new; lateRedo = none; late = none }
 
-module _ {undo new : Option ℕ} {s hm x h : ℕ} {dirty : Bool} {st : ℕ} {us ds : List Entry} where
+module _ {g : Says} {s hm x h : ℕ} {dirty : Bool} {st : ℕ} {us ds : List Entry} where
   -- the working value of a word that is not Dirty is the committed one, or an undo is logged
-  undone : State undo new s hm x h dirty st us ds → (st ≡ Dirty → ⊥) → or undo x ≡ s
+  undone : State g s hm x h dirty st us ds → (st ≡ Dirty → ⊥) → or (g .undo) x ≡ s
   undone (clean a b c d f) calm = d
   undone (cleanWaiting e a b c d f g) calm = g
   undone (State.changed e a b c d f g i) calm = absurd (calm a)
   undone (urlog a b c d f) calm = ap (λ (o : Option ℕ). or o x) d
   undone (ulog a b c d) calm = ap (λ (o : Option ℕ). or o x) d
 
-  -- such a word after its working value went home
-  state-home : State undo new s hm x h dirty st us ds → (st ≡ Dirty → ⊥) → State undo new s x x h false st us ds
-  state-home (clean a b c d f) calm = clean a b c d (or-again new hm x f)
+  -- such a word after its working value went home: no recent record says anything
+  state-home : State g s hm x h dirty st us ds → (st ≡ Dirty → ⊥) → State (covered g) s x x h false st us ds
+  state-home (clean a b c d f) calm = clean a b c d (record { any = f .any; home = refl })
   state-home (cleanWaiting e a b c d f g) calm = cleanWaiting e a b c d f g
   state-home (State.changed e a b c d f g i) calm = absurd (calm a)
-  state-home (urlog a b c d f) calm = urlog a b c d (or-again new hm x f)
+  state-home (urlog a b c d f) calm = urlog a b c d (record { any = f .any; home = refl })
   state-home (ulog a b c d) calm = ulog a b c d
 
   -- and all that holds of it
-  word-home : {redo mine : Option ℕ} → Word undo redo new mine s hm x h dirty st us ds → (st ≡ Dirty → ⊥)
-      → Word undo redo new mine s x x h false st us ds
-  word-home {redo} word calm =
+  word-home : {mine : Option ℕ} → Word g mine s hm x h dirty st us ds → (st ≡ Dirty → ⊥) → Word (covered g) mine s x x h false st us ds
+  word-home word calm =
       record {
-        crash = or-past undo redo x s (undone (word .state) calm) (word .closed);
+        crash = undone (word .state) calm;
         closed = word .closed;
         calm = λ e. refl;
         state = state-home (word .state) calm;
@@ -135,24 +131,26 @@ module _ {undo new : Option ℕ} {s hm x h : ℕ} {dirty : Bool} {st : ℕ} {us 
 
 -- a power cut after any of the stores is safe
 pub writeBack-safe : (m : Machine) (home working : List ℕ) (b : Book) (rs : List Record) (i : ℕ) → CoreOf m home working b rs
-    → isPending m i ≡ false → (c : ℕ) → Safe (m .words) rs (stored home (take c (lineWrites working i))) (b .committed)
+    → isPending m i ≡ false → (c : ℕ) → Safe (m .sizes .words) rs (stored home (take c (lineWrites working i))) (b .committed)
 unfolding Safe
 writeBack-safe m home working b rs i core calm c w h =
     let recovered : ℕ → ℕ = λ v. or (lastTo w (undoWrites rs)) (or (lastTo w (redoWrites rs)) v) in
     let ws : List ℕ = take c (wordsOf i) in
     ap recovered
     (ap (λ (ss : List Store). getD (stored home ss) w 0) (take-map (written working) c (wordsOf i))
-    ∙ word-written working home w ws (omega (arith, core .homeSize)))
+    ∙ word-written working home w ws (omega (arith, core .shape .homeSize)))
     ∙ elim (ℕ-discrete (w / 8) i) [
       | yes e ↦
           elim (has w ws) as (λ (t : Bool). recovered (cond t (getD working w 0) (getD home w 0)) ≡ b .committed w) [
-            | true ↦ word-home (core .word w h) (not-dirty m i w calm e) .crash
-            | false ↦ core .word w h .crash
+            | true ↦
+                or-recent (lastTo w (undoWrites rs)) (lastTo w (redoWrites rs)) (getD working w 0) (b .committed w)
+                (undone (core .at w h .word .state) (not-dirty m i w calm e)) (core .at w h .word .closed)
+            | false ↦ core-safe core w h
           ]
       | no ne ↦
           let out : has w ws ≡ false =
           fails-before (λ v. eqb v w) ws (drop c (wordsOf i)) (rw take-append-drop (has-line i w ∙ ne-eqb (w / 8) i ne)) in
-          rw out (core .word w h .crash)
+          rw out (core-safe core w h)
     ]
 
 -- the lines after line i is written back
@@ -177,35 +175,32 @@ module _ (i : ℕ) (ls : List Line) (w : ℕ) where
 
 -- after all of them the invariant holds
 pub writeBack-step : (m : Machine) (home working : List ℕ) (b : Book) (rs : List Record) (i : ℕ) → CoreOf m home working b rs
-    → i < m .words / 8 → isPending m i ≡ false
-    → CoreOf (withLines (changed (dirtyAs false) i (m .lines)) m) (stored home (lineWrites working i)) working b rs
+    → i < m .sizes .words / 8 → isPending m i ≡ false → CoreOf (writeBackNext m i) (stored home (lineWrites working i)) working b rs
+unfolding redoWrites redos lastTo
 writeBack-step m home working b rs i core line calm =
+    let inside : i < length (m .lines) = omega (arith, core .shape .lineCount) in
     record {
-      lineCount = core .lineCount ∙ ap (λ (n : ℕ). 8 * n) (sym (length-changed (dirtyAs false) i (m .lines)));
-      homeSize = length-stored home (lineWrites working i) ∙ core .homeSize;
-      workingSize = core .workingSize;
-      threads = core .threads;
-      undoSize = core .undoSize;
-      redoSize = core .redoSize;
-      undoOk = core .undoOk;
-      redoOk = core .redoOk;
-      linesOk = every-changed (LineOk (m .opened)) (dirtyAs false) i (m .lines) (core .linesOk)
-          (λ there ok. record { states = ok .states; holder = ok .holder });
+      shape =
+          shape-words
+          (shape-lines (core .shape) (length-changed (dirtyAs false) i (m .lines))
+          (every-changed (LineOk (m .opened)) (dirtyAs false) i (m .lines) (core .shape .linesOk)
+          (λ there ok. record { states = ok .states; holder = ok .holder })))
+          (core .shape .undos) (core .shape .redos) (length-stored home (lineWrites working i)) refl;
       valid = core .valid;
-      own = λ w h. rw (holder-back i (m .lines) w) (core .own w h);
-      others = λ w h t thread began apart. core .others w h t thread began (λ e. apart (e ∙ sym (holder-back i (m .lines) w)));
-      word = λ w h.
-          let inside : i < length (m .lines) = omega (arith, core .lineCount) in
+      at = λ w h.
+          let before = core .at w h in
           rw (
             holder-back i (m .lines) w,
             state-back i (m .lines) w,
             dirty-back i (m .lines) w inside,
-            word-written working home w (wordsOf i) (omega (arith, core .homeSize)),
+            word-written working home w (wordsOf i) (omega (arith, core .shape .homeSize)),
             has-line i w,
           )
           (elim (ℕ-discrete (w / 8) i) [
-            | yes e ↦ rw (eq-eqb (w / 8) i e) (word-home (core .word w h) (not-dirty m i w calm e))
-            | no ne ↦ rw (ne-eqb (w / 8) i ne) (core .word w h)
+            | yes e ↦
+                rw (eq-eqb (w / 8) i e)
+                (record { own = before .own; others = before .others; word = word-home (before .word) (not-dirty m i w calm e) })
+            | no ne ↦ rw (ne-eqb (w / 8) i ne) before
           ]);
     }
 
@@ -259,32 +254,41 @@ module _ (n w : ℕ) (h : w / 8 < n) where
   unfolding holderIn
   holder-fresh = ap (λ (line : Line). line .holder) (getD-replicate n (w / 8) freeLine freeLine h)
 
+  dirty-fresh : dirtyIn (replicate n freeLine) w ≡ false
+  unfolding dirtyIn
+  dirty-fresh = ap (λ (line : Line). line .dirty) (getD-replicate n (w / 8) freeLine freeLine h)
+
 -- the new state keeps the invariant, with no records in the log
 pub recover-step : (words l n : ℕ) (home : List ℕ) (b : Book) → length home ≡ words → words ≡ 8 * (words / 8)
     → ((w : ℕ) → w < words → getD home w 0 ≡ b .committed w) → CoreOf (freshMachine words l n) home home b []
 unfolding lastTo undoWrites redoWrites redos keep
 recover-step words l n home b size whole same =
     record {
-      lineCount = whole ∙ ap (λ (k : ℕ). 8 * k) (sym (length-replicate (words / 8) freeLine));
-      homeSize = size;
-      workingSize = size;
-      threads = refl;
-      undoSize = omega arith;
-      redoSize = omega arith;
-      undoOk = tt;
-      redoOk = tt;
-      linesOk = every-fresh (LineOk (replicate 8 false)) (words / 8) (record { states = omega arith; holder = inl (refl, refl) });
+      shape =
+          record {
+            lineCount = whole ∙ ap (λ (k : ℕ). 8 * k) (sym (length-replicate (words / 8) freeLine));
+            homeSize = size;
+            workingSize = size;
+            threads = refl;
+            linesOk = every-fresh (LineOk (replicate 8 false)) (words / 8) (record { states = omega arith; holder = inl (refl, refl) });
+            undos = record { size = omega arith; ok = tt };
+            redos = record { size = omega arith; ok = tt };
+          };
       valid = tt;
-      own = λ w h. tt;
-      others = λ w h t thread began apart. absurd (false≢true (sym (getD-replicate 8 t false false thread) ∙ began));
-      word = λ w h.
+      at = λ w h.
           let there : w / 8 < words / 8 = omega arith in
           let unmarked : stateIn (replicate (words / 8) freeLine) w ≡ Clean = state-fresh (words / 8) w there in
-          record {
-            crash = same w h;
-            closed = refl;
-            calm = λ e. refl;
-            state = clean unmarked refl refl (same w h) refl;
-            holder = free (holder-fresh (words / 8) w there) (same w h) unmarked refl refl;
-          };
+          rw (dirty-fresh (words / 8) w there)
+          (record {
+            own = tt;
+            others = λ t thread began apart. absurd (false≢true (sym (getD-replicate 8 t false false thread) ∙ began));
+            word =
+                record {
+                  crash = same w h;
+                  closed = refl;
+                  calm = λ e. refl;
+                  state = clean unmarked refl refl (same w h) (record { any = refl; home = refl });
+                  holder = free (holder-fresh (words / 8) w there) (same w h) unmarked refl refl;
+                };
+          });
     }

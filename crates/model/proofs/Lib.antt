@@ -19,8 +19,10 @@ pub mod Homeward
 pub mod Deleting
 pub mod Consistency
 pub mod Worlds
+pub mod Rows
 pub mod Performing
-pub mod Steps
+pub mod Plans
+pub mod Guarded
 pub mod Outcomes
 pub mod Fit
 pub mod EachStep

@@ -1,7 +1,7 @@
 -- What changes of the lines do to the state, the holder and the dirty flag of each word.
 use Prim.Native.Nat.{ℕ, zero, suc, _/_, _%_, _<_}
 use mathlib.Core.Path.{_≡_, refl, sym, ap, _∙_}
-use mathlib.Core.Bool.{cond}
+use mathlib.Core.Bool.{Bool, true, false, cond}
 use mathlib.Core.List.{List, [], _∷_, map}
 use native.Mathlib.Decide.{ℕ-discrete}
 use native.Mathlib.Omega.{arith}
@@ -16,9 +16,10 @@ use Rattle.parts.specs.Lines.{nobody, freeLine}
 use Rattle.parts.specs.States.{stateAt, withState, URLog}
 use Rattle.parts.proofs.States.{state-same, state-other}
 use Rattle.model.specs.Lists.{keep, isEmpty}
-use Rattle.model.specs.Machine.{lineOf, stateIn, holderIn, dirtyIn, statesAs, changed, marked, allLogged}
+use Rattle.model.specs.Machine.{lineOf, stateIn, holderIn, dirtyIn, statesAs, changed, marked, wordsMarked, allLogged}
 use Rattle.model.specs.Consistent.{entriesOf}
 use Rattle.model.specs.Steps.{released}
+use Rattle.model.proofs.Lists.{every-mapped}
 
 -- a line after one line is changed
 pub line-changed : (f : Line → Line) (i : ℕ) (ls : List Line) (k : ℕ) → i < length ls
@@ -84,25 +85,65 @@ pub length-marked : (s u : ℕ) (ls : List Line) → length (marked s u ls) ≡ 
 unfolding marked
 length-marked s u ls = length-changed (λ line. statesAs (withState (line .states) (u % 8) s) line) (u / 8) ls
 
--- all entries of a list are logged: their words become URLog
-pub state-logged : (es : List Entry) (ls : List Line) (w : ℕ) → Every (λ e. e .word / 8 < length ls) es
-    → stateIn (allLogged es ls) w ≡ cond (isEmpty (entriesOf w es)) (stateIn ls w) URLog
-unfolding allLogged keep
-state-logged [] ls w within = refl
-state-logged (e ∷ es) ls w within =
-    state-logged es (marked URLog (e .word) ls) w (simp length-marked (within .1))
-    ∙ ap (λ (s : ℕ). cond (isEmpty (entriesOf w es)) s URLog) (state-marked URLog (e .word) ls w (omega arith) (within .0))
-    ∙ elim (ℕ-discrete (e .word) w) [
+-- the states of several words are replaced
+pub state-words : (s : ℕ) (ws : List ℕ) (ls : List Line) (w : ℕ) → s < 4 → Every (λ v. v / 8 < length ls) ws
+    → stateIn (wordsMarked s ws ls) w ≡ cond (isEmpty (keep (λ v. eqb v w) ws)) (stateIn ls w) s
+unfolding wordsMarked keep
+state-words s [] ls w small within = refl
+state-words s (v ∷ ws) ls w small within =
+    state-words s ws (marked s v ls) w small (simp length-marked (within .1))
+    ∙ ap (λ (n : ℕ). cond (isEmpty (keep (λ u. eqb u w) ws)) n s) (state-marked s v ls w small (within .0))
+    ∙ elim (ℕ-discrete v w) [
       | yes p ↦
-          rw (eq-eqb (e .word) w p, eq-eqb w (e .word) (sym p))
-          (elim (entriesOf w es) as (λ (r : List Entry). cond (isEmpty r) URLog URLog ≡ URLog) [ [] ↦ refl | x ∷ r ↦ refl ])
-      | no ne ↦ rw (ne-eqb (e .word) w ne, ne-eqb w (e .word) (λ p. ne (sym p)))
+          rw (eq-eqb v w p, eq-eqb w v (sym p))
+          (elim (keep (λ u. eqb u w) ws) as (λ (r : List ℕ). cond (isEmpty r) s s ≡ s) [ [] ↦ refl | x ∷ r ↦ refl ])
+      | no ne ↦ rw (ne-eqb v w ne, ne-eqb w v (λ p. ne (sym p)))
     ]
 
+-- what marking one word leaves, marking several leaves
+words-leave : {A : Type 0} (g : List Line → A) (s : ℕ) → ((v : ℕ) (ls : List Line) → g (marked s v ls) ≡ g ls)
+    → (ws : List ℕ) (ls : List Line) → g (wordsMarked s ws ls) ≡ g ls
+unfolding wordsMarked
+words-leave g s one [] ls = refl
+words-leave g s one (v ∷ ws) ls = words-leave g s one ws (marked s v ls) ∙ one v ls
+
+pub holder-words : (s : ℕ) (ws : List ℕ) (ls : List Line) (w : ℕ) → holderIn (wordsMarked s ws ls) w ≡ holderIn ls w
+holder-words s ws ls w = words-leave (λ l. holderIn l w) s (λ v l. holder-marked s v l w) ws ls
+
+pub dirty-words : (s : ℕ) (ws : List ℕ) (ls : List Line) (w : ℕ) → dirtyIn (wordsMarked s ws ls) w ≡ dirtyIn ls w
+dirty-words s ws ls w = words-leave (λ l. dirtyIn l w) s (λ v l. dirty-marked s v l w) ws ls
+
+pub length-words : (s : ℕ) (ws : List ℕ) (ls : List Line) → length (wordsMarked s ws ls) ≡ length ls
+length-words s ws ls = words-leave length s (λ v l. length-marked s v l) ws ls
+
+-- all entries of a list are logged: their words become URLog
+logged-words : (es : List Entry) (ls : List Line) → allLogged es ls ≡ wordsMarked URLog (map (λ e. e .word) es) ls
+unfolding allLogged wordsMarked
+logged-words [] ls = refl
+logged-words (e ∷ es) ls = logged-words es (marked URLog (e .word) ls)
+
+entry-words : (w : ℕ) (es : List Entry) → isEmpty (keep (λ v. eqb v w) (map (λ e. e .word) es)) ≡ isEmpty (entriesOf w es)
+unfolding keep
+entry-words w [] = refl
+entry-words w (e ∷ es) =
+    elim (eqb (e .word) w) as (λ (t : Bool). isEmpty (cond t (e .word ∷ keep (λ v. eqb v w) (map (λ e. e .word) es))
+    (keep (λ v. eqb v w) (map (λ e. e .word) es))) ≡ isEmpty (cond t (e ∷ entriesOf w es) (entriesOf w es))) [
+      | true ↦ refl
+      | false ↦ entry-words w es
+    ]
+
+pub state-logged : (es : List Entry) (ls : List Line) (w : ℕ) → Every (λ e. e .word / 8 < length ls) es
+    → stateIn (allLogged es ls) w ≡ cond (isEmpty (entriesOf w es)) (stateIn ls w) URLog
+state-logged es ls w within =
+    ap (λ l. stateIn l w) (logged-words es ls)
+    ∙ state-words URLog (map (λ e. e .word) es) ls w (omega arith) (every-mapped (λ v. v / 8 < length ls) (λ e. e .word) es within)
+    ∙ ap (λ (t : Bool). cond t (stateIn ls w) URLog) (entry-words w es)
+
 pub holder-logged : (es : List Entry) (ls : List Line) (w : ℕ) → holderIn (allLogged es ls) w ≡ holderIn ls w
-unfolding allLogged
-holder-logged [] ls w = refl
-holder-logged (e ∷ es) ls w = holder-logged es (marked URLog (e .word) ls) w ∙ holder-marked URLog (e .word) ls w
+holder-logged es ls w = ap (λ l. holderIn l w) (logged-words es ls) ∙ holder-words URLog (map (λ e. e .word) es) ls w
+
+pub dirty-logged : (es : List Entry) (ls : List Line) (w : ℕ) → dirtyIn (allLogged es ls) w ≡ dirtyIn ls w
+dirty-logged es ls w = ap (λ l. dirtyIn l w) (logged-words es ls) ∙ dirty-words URLog (map (λ e. e .word) es) ls w
 
 -- the lines that t held are free, the others as they were
 pub line-released : (t : ℕ) (ls : List Line) (k : ℕ) → (t ≡ nobody → ⊥) → lineOf (map (released t) ls) k ≡ released t (lineOf ls k)

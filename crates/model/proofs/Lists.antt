@@ -3,7 +3,7 @@ use Prim.Native.Nat.{ℕ, zero, suc, _<_}
 use native.Mathlib.Omega.{arith}
 use mathlib.Core.Path.{_≡_, refl, ap}
 use mathlib.Core.Bool.{Bool, true, false, cond, _&&_, false≢true}
-use mathlib.Core.List.{List, [], _∷_, map}
+use mathlib.Core.List.{List, [], _∷_, _++_, map}
 use lib.ListN.{take}
 use Rattle.log.specs.Holding.{Every}
 use Rattle.log.proofs.Holding.{every-append}
@@ -14,6 +14,15 @@ use Rattle.model.specs.Lists.{keep}
 pub every-implied : {A : Type 0} (P Q : A → Type 0) (xs : List A) → ((x : A) → P x → Q x) → Every P xs → Every Q xs
 every-implied P Q [] f every = tt
 every-implied P Q (x ∷ xs) f every = (f x (every .0), every-implied P Q xs f (every .1))
+
+-- a property of every element of two lists on end is one of each of them
+pub every-left : {A : Type 0} (P : A → Type 0) (xs ys : List A) → Every P (xs ++ ys) → Every P xs
+every-left P [] ys every = tt
+every-left P (x ∷ xs) ys every = (every .0, every-left P xs ys (every .1))
+
+pub every-right : {A : Type 0} (P : A → Type 0) (xs ys : List A) → Every P (xs ++ ys) → Every P ys
+every-right P [] ys every = every
+every-right P (x ∷ xs) ys every = every-right P xs ys (every .1)
 
 -- what holds of each element that passes a test holds of every one kept
 pub every-kept : {A : Type 0} (P : A → Type 0) (f : A → Bool) (xs : List A) → Every (λ x. f x ≡ true → P x) xs → Every P (keep f xs)

@@ -8,7 +8,7 @@ use Rattle.log.specs.declared.Record.{Record}
 use Rattle.log.specs.declared.Record.the-variants.{UndoRedo, Redo, Commit}
 use Rattle.log.specs.Stores.{Store}
 use Rattle.log.specs.Layout.{threadOf}
-use Rattle.model.specs.Recovery.{closed}
+use Rattle.model.specs.Readings.{closed}
 
 -- the redos of all records, closed or not, in log order
 unfoldable pub redos : List Record → List Store

@@ -1,151 +1,166 @@
--- Plans carried out under a supply: all their stores, or the first few and a lost machine.
+-- The stores of a plan, made under a supply: all of them, or the first few and a lost machine. Stores to home, log and head may stand in any order.
 use Prim.Native.Nat.{ℕ, zero, suc, _+_, _-_, _≤_, _<_}
-use mathlib.Core.Path.{_≡_, refl, sym, _∙_, ap, ap₂, subst}
-use mathlib.Core.List.{List, [], _∷_, _++_, map, append-nil, map-append}
-use native.Mathlib.Nat.{zero-sub, sub-zero, suc-sub-suc}
+use mathlib.Core.Path.{_≡_, refl, sym, _∙_, ap}
+use mathlib.Core.List.{List, [], _∷_, _++_, map, append-nil, append-assoc, map-append}
+use native.Mathlib.Nat.{add-zero}
 use native.Mathlib.Omega.{arith}
 use native.Mathlib.Decide.{decLe}
-use borrow.Author.Tests.{le-leb, lt-leb, eqb-false}
-use lib.ListN.{length, take, replicate, length-append, length-map}
-use lib.Seq.{take-all, take-nil}
+use borrow.Author.Tests.{le-leb, lt-leb}
+use lib.ListN.{length, take, replicate, length-append}
+use lib.Seq.{take-all}
 use Rattle.log.specs.declared.Record.{Record}
 use Rattle.log.specs.Stores.{Store, stored}
 use Rattle.log.specs.Region.{recordStores, recordsStores, headStores}
+use Rattle.log.proofs.Stored.{stored-none, stored-append, take-append}
 use Rattle.log.proofs.Appending.{records-none, records-one, records-append}
 use Rattle.model.specs.Machine.{Machine, Memory, lostMachine}
-use Rattle.model.specs.Plan.{Op, append, writeHome, setHead, Put, inHome, inLog, putsOf, homePart, logPart, Outcome, written, performed}
-use Rattle.model.specs.Book.{Book}
-use Rattle.model.proofs.Worlds.{Kept, Live, Ends, finished, stopped}
+use Rattle.model.specs.Plan.{Op, append, writeHome, setHead, Put, inHome, inLog, putsOf, homePart, logPart, written, performed}
+use Rattle.model.proofs.Lists.{take-map}
 
--- stores to home, then stores to the log: the stores of every plan
-abbrev pub puts : List Store → List Store → List Put
-puts hs gs = map inHome hs ++ map inLog gs
+-- how many records are appended
+unfoldable pub appendsIn : List Op → ℕ
+appendsIn [] = 0
+appendsIn (append r ∷ ops) = suc (appendsIn ops)
+appendsIn (writeHome s ∷ ops) = appendsIn ops
+appendsIn (setHead k ∷ ops) = appendsIn ops
 
--- a plan that appends records, one that writes words home, and one that sets the head after that
-pub puts-append : (l n : ℕ) (rs : List Record) → putsOf l n (map append rs) ≡ puts [] (recordsStores l n rs)
+-- the stores of operations, then others
+pub puts-then : (l n : ℕ) (ops more : List Op) → putsOf l n (ops ++ more) ≡ putsOf l n ops ++ putsOf l (n + appendsIn ops) more
+unfolding putsOf appendsIn
+puts-then l n [] more = rw add-zero
+puts-then l n (append r ∷ ops) more =
+    let next : n + 1 + appendsIn ops ≡ n + suc (appendsIn ops) = omega arith in
+    rw (puts-then l (n + 1) ops more, next, append-assoc)
+puts-then l n (writeHome s ∷ ops) more = ap (λ (ps : List Put). inHome s ∷ ps) (puts-then l n ops more)
+puts-then l n (setHead k ∷ ops) more = rw (puts-then l n ops more, append-assoc)
+
+pub appends-then : (ops more : List Op) → appendsIn (ops ++ more) ≡ appendsIn ops + appendsIn more
+unfolding appendsIn
+appends-then [] more = omega arith
+appends-then (append r ∷ ops) more = let rest = appends-then ops more in omega arith
+appends-then (writeHome s ∷ ops) more = appends-then ops more
+appends-then (setHead k ∷ ops) more = appends-then ops more
+
+-- records appended, words written home, and the head set
+pub puts-append : (l n : ℕ) (rs : List Record) → putsOf l n (map append rs) ≡ map inLog (recordsStores l n rs)
 unfolding putsOf
 puts-append l n [] = rw records-none
 puts-append l n (r ∷ rs) =
     rw (records-append l n (r ∷ []) rs, records-one, map-append)
     (ap (λ (ps : List Put). map inLog (recordStores l n r) ++ ps) (puts-append l (n + 1) rs))
 
-pub puts-home : (l n : ℕ) (hs : List Store) (ops : List Op)
-    → putsOf l n (map writeHome hs ++ ops) ≡ map inHome hs ++ putsOf l n ops
+pub puts-home : (l n : ℕ) (hs : List Store) → putsOf l n (map writeHome hs) ≡ map inHome hs
 unfolding putsOf
-puts-home l n [] ops = refl
-puts-home l n (h ∷ hs) ops = ap (λ (ps : List Put). inHome h ∷ ps) (puts-home l n hs ops)
+puts-home l n [] = refl
+puts-home l n (h ∷ hs) = ap (λ (ps : List Put). inHome h ∷ ps) (puts-home l n hs)
 
-pub puts-homes : (l n : ℕ) (hs : List Store) → putsOf l n (map writeHome hs) ≡ puts hs []
-unfolding putsOf
-puts-homes l n hs = ap (putsOf l n) (sym (append-nil (map writeHome hs))) ∙ puts-home l n hs []
-
-pub puts-head : (l n k : ℕ) → putsOf l n (setHead k ∷ []) ≡ puts [] (headStores l k)
+pub puts-head : (l n k : ℕ) → putsOf l n (setHead k ∷ []) ≡ map inLog (headStores l k)
 unfolding putsOf
 puts-head l n k = append-nil (map inLog (headStores l k))
 
--- the first c of them: what goes to home, and what goes to the log
-log-taken : (c : ℕ) (gs : List Store) → (homePart (take c (map inLog gs)) ≡ []) × (logPart (take c (map inLog gs)) ≡ take c gs)
-unfolding homePart logPart
-log-taken zero gs = (refl, refl)
-log-taken (suc c) [] = (refl, refl)
-log-taken (suc c) (g ∷ gs) = (log-taken c gs .0, ap (λ (ss : List Store). g ∷ ss) (log-taken c gs .1))
+pub appends-records : (rs : List Record) → appendsIn (map append rs) ≡ length rs
+unfolding appendsIn
+appends-records [] = refl
+appends-records (r ∷ rs) = ap suc (appends-records rs)
 
-taken : (c : ℕ) (hs gs : List Store)
-    → (homePart (take c (puts hs gs)) ≡ take c hs) × (logPart (take c (puts hs gs)) ≡ take (c - length hs) gs)
-unfolding homePart logPart
-taken c [] gs =
-    (log-taken c gs .0 ∙ sym (take-nil c), log-taken c gs .1 ∙ ap (λ (n : ℕ). take n gs) (sym (sub-zero c)))
-taken zero (h ∷ hs) gs = (refl, ap (λ (n : ℕ). take n gs) (sym (zero-sub (suc (length hs)))))
-taken (suc c) (h ∷ hs) gs = (
-  ap (λ (ss : List Store). h ∷ ss) (taken c hs gs .0),
-  taken c hs gs .1 ∙ ap (λ (n : ℕ). take n gs) (sym (suc-sub-suc c (length hs))),
-)
+pub appends-home : (hs : List Store) → appendsIn (map writeHome hs) ≡ 0
+unfolding appendsIn
+appends-home [] = refl
+appends-home (h ∷ hs) = appends-home hs
 
-pub length-puts : (hs gs : List Store) → length (puts hs gs) ≡ length hs + length gs
-length-puts hs gs = simp (length-append, length-map)
+-- the memory after stores, then others
+home-then : (ps qs : List Put) → homePart (ps ++ qs) ≡ homePart ps ++ homePart qs
+unfolding homePart
+home-then [] qs = refl
+home-then (inHome s ∷ ps) qs = ap (λ (ss : List Store). s ∷ ss) (home-then ps qs)
+home-then (inLog s ∷ ps) qs = home-then ps qs
 
--- the memory after the first c stores
-abbrev pub partly : Memory → ℕ → List Store → List Store → List ℕ → Memory
-partly mem c hs gs working =
-    record {
-      home = stored (mem .home) (take c hs);
-      working = working;
-      log = stored (mem .log) (take (c - length hs) gs);
-    }
+log-then : (ps qs : List Put) → logPart (ps ++ qs) ≡ logPart ps ++ logPart qs
+unfolding logPart
+log-then [] qs = refl
+log-then (inHome s ∷ ps) qs = log-then ps qs
+log-then (inLog s ∷ ps) qs = ap (λ (ss : List Store). s ∷ ss) (log-then ps qs)
 
-pub partly-written : (mem : Memory) (c : ℕ) (hs gs : List Store) (working : List ℕ)
-    → written mem (take c (puts hs gs)) working ≡ partly mem c hs gs working
+pub written-then : (mem : Memory) (ps qs : List Put) (mid working : List ℕ) → written mem (ps ++ qs) working ≡ written (written mem ps mid) qs working
 unfolding written
-partly-written mem c hs gs working =
-    ap₂ (λ (x y : List Store). let r : Memory = record { home = stored (mem .home) x; working = working; log = stored (mem .log) y } in r)
-    (taken c hs gs .0)
-    (taken c hs gs .1)
+written-then mem ps qs mid working = simp (home-then, log-then, stored-append)
+
+-- stores to home alone, and stores to the log alone
+home-of : (hs : List Store) → (homePart (map inHome hs) ≡ hs) × (logPart (map inHome hs) ≡ [])
+unfolding homePart logPart
+home-of [] = (refl, refl)
+home-of (h ∷ hs) = (ap (λ (ss : List Store). h ∷ ss) (home-of hs .0), home-of hs .1)
+
+log-of : (gs : List Store) → (homePart (map inLog gs) ≡ []) × (logPart (map inLog gs) ≡ gs)
+unfolding homePart logPart
+log-of [] = (refl, refl)
+log-of (g ∷ gs) = (log-of gs .0, ap (λ (ss : List Store). g ∷ ss) (log-of gs .1))
+
+pub written-home : (mem : Memory) (c : ℕ) (hs : List Store) (working : List ℕ)
+    → written mem (take c (map inHome hs)) working ≡ record { home = stored (mem .home) (take c hs); working = working; log = mem .log }
+unfolding written
+written-home mem c hs working = rw (take-map inHome c hs, home-of (take c hs) .0, home-of (take c hs) .1, stored-none (mem .log))
+
+pub written-log : (mem : Memory) (c : ℕ) (gs : List Store) (working : List ℕ)
+    → written mem (take c (map inLog gs)) working ≡ record { home = mem .home; working = working; log = stored (mem .log) (take c gs) }
+unfolding written
+written-log mem c gs working = rw (take-map inLog c gs, log-of (take c gs) .0, log-of (take c gs) .1, stored-none (mem .home))
+
+-- all of them
+pub all-puts : (mem : Memory) (ps : List Put) (working : List ℕ) → written mem ps working ≡ written mem (take (length ps) ps) working
+all-puts mem ps working = rw (take-all (length ps) ps (omega arith))
+
+-- the first c of a plan that goes home and then to the log
+pub written-both : (mem : Memory) (c : ℕ) (hs gs : List Store) (working : List ℕ)
+    → written mem (take c (map inHome hs ++ map inLog gs)) working
+    ≡ record { home = stored (mem .home) (take c hs); working = working; log = stored (mem .log) (take (c - length (map inHome hs)) gs) }
+written-both mem c hs gs working =
+    rw (
+      take-append c (map inHome hs) (map inLog gs),
+      written-then mem (take c (map inHome hs)) (take (c - length (map inHome hs)) (map inLog gs)) working working,
+      written-home mem c hs working,
+      written-log _ (c - length (map inHome hs)) gs working,
+    )
+
+-- the words of a cut
+abbrev pub cleared : Memory → List ℕ
+cleared mem = replicate (length (mem .working)) 0
 
 -- the two ways out
-pub performed-all : (c : ℕ) (mem : Memory) (ps : List Put) (next : Machine) (working : List ℕ) → length ps ≤ c
-    → performed c mem ps next working
-    ≡ record { answer = 0; left = c - length ps; machine = next; memory = written mem ps working }
+pub performed-all : (c a : ℕ) (mem : Memory) (ps : List Put) (next : Machine) (working : List ℕ) → length ps ≤ c
+    → performed c a mem ps next working ≡ record { answer = a; left = c - length ps; machine = next; memory = written mem ps working }
 unfolding performed
-performed-all c mem ps next working h = rw (le-leb (length ps) c h)
+performed-all c a mem ps next working h = rw (le-leb (length ps) c h)
 
-pub performed-cut : (c : ℕ) (mem : Memory) (ps : List Put) (next : Machine) (working : List ℕ) → c < length ps
-    → performed c mem ps next working
-    ≡ record {
-      answer = 255;
-      left = 0;
-      machine = lostMachine;
-      memory = written mem (take c ps) (replicate (length (mem .working)) 0);
-    }
+pub performed-cut : (c a : ℕ) (mem : Memory) (ps : List Put) (next : Machine) (working : List ℕ) → c < length ps
+    → performed c a mem ps next working ≡ record { answer = 255; left = 0; machine = lostMachine; memory = written mem (take c ps) (cleared mem) }
 unfolding performed
-performed-cut c mem ps next working h = rw (lt-leb (length ps) c h)
+performed-cut c a mem ps next working h = rw (lt-leb (length ps) c h)
 
--- the memory after all stores
-pub whole : (mem : Memory) (hs gs : List Store) (working : List ℕ)
-    → written mem (puts hs gs) working ≡ record { home = stored (mem .home) hs; working = working; log = stored (mem .log) gs }
-whole mem hs gs working =
-    let n : ℕ = length hs + length gs in
-    ap (λ (ps : List Put). written mem ps working) (sym (take-all n (puts hs gs) (rw length-puts (omega arith))))
-    ∙ partly-written mem n hs gs working
-    ∙ ap₂ (λ (x y : List Store). let r : Memory = record { home = stored (mem .home) x; working = working; log = stored (mem .log) y } in r)
-    (take-all n hs (omega arith))
-    (take-all (n - length hs) gs (omega arith))
+-- Stores, then others: under a supply that is enough for the first, the others under what is left; else the cut of the first.
+module _ (c a : ℕ) (mem : Memory) (ps qs : List Put) (mid : List ℕ) (next : Machine) (working : List ℕ) where
+  pub performed-then : length mid ≡ length (mem .working) → length ps ≤ c
+      → performed c a mem (ps ++ qs) next working ≡ performed (c - length ps) a (written mem ps mid) qs next working
+  unfolding written
+  performed-then same h =
+      let size : length (ps ++ qs) ≡ length ps + length qs = length-append ps qs in
+      elim (decLe (length qs) (c - length ps)) [
+        | yes p ↦
+            let rest : c - length (ps ++ qs) ≡ c - length ps - length qs = omega arith in
+            performed-all c a mem (ps ++ qs) next working (omega arith)
+            ∙ (rw (rest, written-then mem ps qs mid working))
+            ∙ sym (performed-all (c - length ps) a (written mem ps mid) qs next working p)
+        | no q ↦
+            performed-cut c a mem (ps ++ qs) next working (omega arith)
+            ∙ (rw (take-append c ps qs, take-all c ps h, written-then mem ps (take (c - length ps) qs) mid (cleared mem), same))
+            ∙ sym (performed-cut (c - length ps) a (written mem ps mid) qs next working (omega arith))
+      ]
 
--- with supply enough the answer is done
-pub enough : (c : ℕ) (mem : Memory) (hs gs : List Store) (next : Machine) (working : List ℕ) → length hs + length gs ≤ c
-    → performed c mem (puts hs gs) next working .answer ≡ 0
-enough c mem hs gs next working h =
-    ap (λ (o : Outcome). o .answer) (performed-all c mem (puts hs gs) next working (rw length-puts h))
-
--- what is answered done has made all its stores
-pub done-memory : (c : ℕ) (mem : Memory) (hs gs : List Store) (next : Machine) (working : List ℕ)
-    → performed c mem (puts hs gs) next working .answer ≡ 0
-    → performed c mem (puts hs gs) next working .memory
-    ≡ record { home = stored (mem .home) hs; working = working; log = stored (mem .log) gs }
-done-memory c mem hs gs next working e = go (decLe (length hs + length gs) c)
-  where
-    go : Dec (length hs + length gs ≤ c)
-        → performed c mem (puts hs gs) next working .memory
-        ≡ record { home = stored (mem .home) hs; working = working; log = stored (mem .log) gs }
-    go (yes p) =
-        ap (λ (o : Outcome). o .memory) (performed-all c mem (puts hs gs) next working (rw length-puts p)) ∙ whole mem hs gs working
-    go (no q) =
-        let cut : performed c mem (puts hs gs) next working .answer ≡ 255 =
-        ap (λ (o : Outcome). o .answer) (performed-cut c mem (puts hs gs) next working (rw length-puts (omega arith))) in
-        absurd (eqb-false 255 0 refl (sym cut ∙ e))
-
--- A plan whose stores are hs and then gs ends well if it does so with all of them made, and is safe with any fewer.
-pub ends : {l : ℕ} (c : ℕ) (mem : Memory) (hs gs : List Store) (next : Machine) (working : List ℕ) (before book : Book)
-    → Live l next (record { home = stored (mem .home) hs; working = working; log = stored (mem .log) gs }) book
-    → ((k : ℕ) → k < length hs + length gs → Kept l (partly mem k hs gs (replicate (length (mem .working)) 0)) (before .committed))
-    → Ends l (performed c mem (puts hs gs) next working) before book
-ends {l} c mem hs gs next working before book all some = go (decLe (length hs + length gs) c)
-  where
-    go : Dec (length hs + length gs ≤ c) → Ends l (performed c mem (puts hs gs) next working) before book
-    go (yes p) =
-        subst (λ (o : Outcome). Ends l o before book) (sym (performed-all c mem (puts hs gs) next working (rw length-puts p)))
-        (finished refl (subst (λ (r : Memory). Live l next r book) (sym (whole mem hs gs working)) all))
-    go (no q) =
-        subst (λ (o : Outcome). Ends l o before book) (sym (performed-cut c mem (puts hs gs) next working (rw length-puts (omega arith))))
-        (stopped refl refl
-        (subst (λ (r : Memory). Kept l r (before .committed)) (sym (partly-written mem c hs gs (replicate (length (mem .working)) 0)))
-        (some c (omega arith))))
+  pub performed-first : (b : ℕ) (other : Machine) → c < length ps
+      → performed c a mem (ps ++ qs) next working ≡ performed c b mem ps other mid
+  performed-first b other h =
+      let size : length (ps ++ qs) ≡ length ps + length qs = length-append ps qs in
+      let none : c - length ps ≡ 0 = omega arith in
+      performed-cut c a mem (ps ++ qs) next working (omega arith)
+      ∙ (rw (take-append c ps qs, none, append-nil))
+      ∙ sym (performed-cut c b mem ps other mid h)

@@ -11,12 +11,14 @@ use lib.Dec.{eqb}
 use lib.Seq.{append-snoc}
 use Rattle.log.specs.declared.Record.{Record}
 use Rattle.log.specs.declared.Record.the-variants.{UndoRedo, Redo, Commit}
+use Rattle.log.specs.declared.Reading.the-variants.{Good}
 use Rattle.log.specs.Stores.{Store}
 use Rattle.log.specs.Layout.{threadOf}
 use Rattle.log.specs.Holding.{Every, Valid}
 use Rattle.parts.specs.Lines.{nobody}
 use Rattle.model.specs.Lists.{any}
-use Rattle.model.specs.Recovery.{isCommit, closed, redoOfClosed, undoOfOpen, redoWrites, undoWrites}
+use Rattle.model.specs.Readings.{isCommit, closed, records}
+use Rattle.model.specs.Recovery.{redoOfClosed, undoOfOpen, redoWrites, undoWrites}
 use Rattle.model.proofs.LastTo.{first, lastTo, last-append}
 use Rattle.model.proofs.Own.{redos, writesTo, isCommitRecord, Own}
 
@@ -65,7 +67,7 @@ redo-alike (Redo t w v) a b e = rw e
 redo-alike (Commit t) a b e = refl
 
 -- a record at the end that is no commit is the first to be undone
-undo-of-data : (rs : List Record) (r : Record) → isCommitRecord r ≡ false → undoWrites (rs ++ (r ∷ [])) ≡ undoOfOpen r [] ++ undoWrites rs
+pub undo-of-data : (rs : List Record) (r : Record) → isCommitRecord r ≡ false → undoWrites (rs ++ (r ∷ [])) ≡ undoOfOpen r [] ++ undoWrites rs
 unfolding undoWrites
 undo-of-data [] r d = sym (append-nil (undoOfOpen r []))
 undo-of-data (x ∷ rs) r d =
@@ -115,6 +117,11 @@ redos-append [] new = refl
 redos-append (UndoRedo t w u r ∷ rs) new = ap (λ (ss : List Store). record { at = w; value = r } ∷ ss) (redos-append rs new)
 redos-append (Redo t w r ∷ rs) new = ap (λ (ss : List Store). record { at = w; value = r } ∷ ss) (redos-append rs new)
 redos-append (Commit t ∷ rs) new = redos-append rs new
+
+-- a commit record has no redo
+pub redos-commit : (t : ℕ) (rs : List Record) → redos (rs ++ (Commit t ∷ [])) ≡ redos rs
+unfolding redos
+redos-commit t rs = redos-append rs (Commit t ∷ []) ∙ append-nil (redos rs)
 
 -- the open records of a word stay its holder's if one more of them is
 own-end : (w h : ℕ) (rs : List Record) (r : Record) → Own w h rs → (writesTo w r ≡ true → threadOf r ≡ h) → Own w h (rs ++ (r ∷ []))
@@ -246,3 +253,9 @@ own-free words w t (r ∷ rs) valid own = (
       absurd (omega arith),
   own-free words w t rs (valid .1) (own .1),
 )
+
+-- what is read back of good records
+pub all-records : (rs : List Record) → records (map Good rs) ≡ rs
+unfolding records
+all-records [] = refl
+all-records (r ∷ rs) = ap (λ (xs : List Record). r ∷ xs) (all-records rs)

@@ -1,14 +1,16 @@
 -- A recovery on buffers that are kept is never refused; done, it brings the committed values home.
-use Prim.Native.Nat.{ℕ, _+_, _-_, _*_, _/_, _%_, _<_}
-use mathlib.Core.Path.{_≡_, refl, sym, _∙_, ap, subst}
+use Prim.Native.Nat.{ℕ, _+_, _-_, _*_, _/_, _%_, _≤_, _<_}
+use mathlib.Core.Path.{_≡_, refl, sym, _∙_, ap}
 use mathlib.Core.Bool.{true, false, _&&_}
 use mathlib.Core.List.{List, [], _∷_, _++_, map}
+use mathlib.Core.Logic.{_⊎_, inl, inr}
+use native.Mathlib.Decide.{decLe}
 use native.Mathlib.Omega.{arith}
 use native.Mathlib.Nat.{add-zero}
-use borrow.Author.Tests.{le-ltb, eq-eqb, ne-eqb, eqb-true}
+use borrow.Author.Tests.{le-ltb, eq-eqb, ne-eqb, eqb-true, eqb-false}
 use lib.Dec.{eqb, leb}
-use lib.ListN.{length, getD, take, replicate, length-replicate}
-use lib.Seq.{drop-length}
+use lib.ListN.{length, getD, take, length-append, length-map, length-replicate}
+use lib.Seq.{take-all, drop-length}
 use Rattle.log.specs.declared.Record.{Record}
 use Rattle.log.specs.declared.Reading.the-variants.{Good}
 use Rattle.log.specs.Stores.{Store, stored}
@@ -19,16 +21,17 @@ use Rattle.log.proofs.Readings.{tail-found, read-all}
 use Rattle.model.specs.Lists.{any}
 use Rattle.model.specs.Machine.{Machine, Memory, freshMachine}
 use Rattle.model.specs.Consistent.{isWidth}
-use Rattle.model.specs.Plan.{Put, writeHome, setHead, planned, Outcome, performed}
+use Rattle.model.specs.Readings.{isBad}
+use Rattle.model.specs.Plan.{Put, inHome, inLog, writeHome, setHead, planned, Outcome, written, performed, carriedOut}
 use Rattle.model.specs.Refusals.{unless, wrongLengths}
-use Rattle.model.specs.Steps.{isBad}
-use Rattle.model.specs.Recovery.{recoveryWrites, records, recoverPlan}
+use Rattle.model.specs.Recovery.{recoveryWrites}
 use Rattle.model.specs.Step.{recover, planOf, stepped}
 use Rattle.model.specs.Book.{Book}
 use Rattle.model.proofs.Lists.{both-right}
-use Rattle.model.proofs.Worlds.{Kept, Live, Ends, kept}
-use Rattle.model.proofs.Performing.{puts, puts-home, puts-head, partly, ends, done-memory}
-use Rattle.model.proofs.Steps.{stepped-planned}
+use Rattle.model.proofs.Records.{all-records}
+use Rattle.model.proofs.Worlds.{Kept, Live, kept}
+use Rattle.model.proofs.Performing.{puts-then, puts-home, puts-head, written-both, all-puts, cleared, performed-all, performed-cut}
+use Rattle.model.proofs.Plans.{Does, Ends, does-ends}
 use Rattle.model.proofs.Homeward.{recover-safe, recover-home, recover-step}
 
 -- good readings
@@ -36,11 +39,6 @@ none-bad : (rs : List Record) → any isBad (map Good rs) ≡ false
 unfolding any
 none-bad [] = refl
 none-bad (r ∷ rs) = none-bad rs
-
-all-records : (rs : List Record) → records (map Good rs) ≡ rs
-unfolding records
-all-records [] = refl
-all-records (r ∷ rs) = ap (λ (xs : List Record). r ∷ xs) (all-records rs)
 
 -- a width is a multiple of 8
 pub width-whole : (n : ℕ) → isWidth n ≡ true → n ≡ 8 * (n / 8)
@@ -59,66 +57,99 @@ module _ {l : ℕ} (c : ℕ) (m : Machine) (mem : Memory) (b : Book) (world : Ke
   abbrev pub writes : List Store
   writes = recoveryWrites (world .rs)
 
+  -- its stores
+  abbrev pub puts : List Put
+  puts = map inHome writes ++ map inLog (headStores l end)
+
   plan : planOf recover m mem
-      ≡ planned (map writeHome writes ++ (setHead end ∷ [])) (freshMachine width l end) (stored (mem .home) writes)
-  unfolding planOf recoverPlan unless wrongLengths
+      ≡ planned 0 (map writeHome writes ++ (setHead end ∷ [])) (freshMachine width l end) (stored (mem .home) writes)
+  unfolding planOf unless wrongLengths
   plan =
       let holds = world .holds in
-      let least = holds .least in
-      let numbered = holds .numbered in
       let alike = eq-eqb (length (mem .working)) (length (mem .home)) (world .working) in
-      let some = ne-eqb l 0 (omega arith) in
-      let low = le-ltb numbers (world .head) (omega arith) in
+      let some = ne-eqb l 0 (omega (arith, holds .least)) in
+      let low = le-ltb numbers (world .head) (omega (arith, holds .numbered)) in
       rw (read-all holds, none-bad (world .rs), all-records (world .rs), tail-found holds, world .width, alike, slots-of holds, some, holds .first, low)
 
-  pub recovered : stepped recover c m mem
-      ≡ performed c mem (puts writes (headStores l end)) (freshMachine width l end) (stored (mem .home) writes)
+  pub recovered : stepped recover c m mem ≡ performed c 0 mem puts (freshMachine width l end) (stored (mem .home) writes)
+  unfolding stepped carriedOut
   recovered =
-      stepped-planned recover c m mem (map writeHome writes ++ (setHead end ∷ [])) (freshMachine width l end) (stored (mem .home) writes) plan
-      ∙ ap (λ (ps : List Put). performed c mem ps (freshMachine width l end) (stored (mem .home) writes))
-      (rw (slots-of (world .holds), puts-home l (m .tail) writes (setHead end ∷ []), puts-head l (m .tail) end))
+      rw (plan, slots-of (world .holds), puts-then l (m .span .tail) (map writeHome writes) (setHead end ∷ []), puts-home, puts-head)
 
   -- all is home
   same : (w : ℕ) → w < width → getD (stored (mem .home) writes) w 0 ≡ b .committed w
   same = recover-home width (world .rs) (mem .home) (b .committed) refl (world .safe)
 
-  all : Live l (freshMachine width l end)
-      (record { home = stored (mem .home) writes; working = stored (mem .home) writes; log = stored (mem .log) (headStores l end) }) b
-  all =
+  -- what all its stores leave
+  whole : written mem puts (stored (mem .home) writes)
+      ≡ record { home = stored (mem .home) writes; working = stored (mem .home) writes; log = stored (mem .log) (headStores l end) }
+  whole =
+      let one = size-of-head l end (omega (arith, world .holds .least)) in
+      let size : length puts ≡ length writes + 1 = rw (length-append, length-map, length-map) (omega arith) in
+      all-puts mem puts (stored (mem .home) writes)
+      ∙ written-both mem (length puts) writes (headStores l end) (stored (mem .home) writes)
+      ∙ (rw (
+        take-all (length puts) writes (omega arith),
+        take-all (length puts - length (map inHome writes)) (headStores l end) (rw length-map (omega arith)),
+      ))
+
+  does : Does l mem puts (freshMachine width l end) (stored (mem .home) writes) b b
+  does =
       record {
-        rs = [];
-        alive = refl;
-        width = world .width;
-        slots = refl;
-        holds = rw drop-length at (deleted (world .holds) (length (world .rs)) (omega arith));
-        tail = sym (add-zero end);
-        core = recover-step width l end (stored (mem .home) writes) b (length-stored (mem .home) writes) (width-whole width (world .width)) same;
+        size = length-stored (mem .home) writes ∙ sym (world .working);
+        safe = λ k h.
+            let one = size-of-head l end (omega (arith, world .holds .least)) in
+            let size : length puts ≡ length writes + 1 = rw (length-append, length-map, length-map) (omega arith) in
+            let none : k - length (map inHome writes) ≡ 0 = rw length-map (omega arith) in
+            rw (written-both mem k writes (headStores l end) (cleared mem), none, stored-none (mem .log))
+            (kept width (record { home = stored (mem .home) (take k writes); working = cleared mem; log = mem .log }) (b .committed) (world .rs)
+            (world .head) (world .width) (length-stored (mem .home) (take k writes)) (length-replicate (length (mem .working)) 0 ∙ world .working)
+            (world .holds) (recover-safe width (world .rs) (mem .home) (b .committed) refl (world .safe) k));
+        live = rw whole
+            (record {
+              rs = [];
+              alive = refl;
+              width = world .width;
+              slots = refl;
+              holds = rw drop-length at (deleted (world .holds) (length (world .rs)) (omega arith));
+              tail = sym (add-zero end);
+              core = recover-step width l end (stored (mem .home) writes) b (length-stored (mem .home) writes) (width-whole width (world .width)) same;
+            });
       }
 
-  some : (k : ℕ) → k < length writes + length (headStores l end)
-      → Kept l (partly mem k writes (headStores l end) (replicate (length (mem .working)) 0)) (b .committed)
-  some k h =
-      let least = world .holds .least in
-      let one = size-of-head l end (omega arith) in
-      let none : k - length writes ≡ 0 = omega arith in
-      kept width (partly mem k writes (headStores l end) (replicate (length (mem .working)) 0)) (b .committed) (world .rs) (world .head) (world .width)
-      (length-stored (mem .home) (take k writes))
-      (length-replicate (length (mem .working)) 0 ∙ world .working)
-      (rw (none, stored-none) (world .holds))
-      (recover-safe width (world .rs) (mem .home) (b .committed) refl (world .safe) k)
-
-  pub recover-ends : Ends l (stepped recover c m mem) b b
-  recover-ends =
-      subst (λ (o : Outcome). Ends l o b b) (sym recovered)
-      (ends c mem writes (headStores l end) (freshMachine width l end) (stored (mem .home) writes) b b all some)
+  -- a recovery is done or cut; it notes nothing in the book
+  pub recover-ends : Ends l (stepped recover c m mem) b (λ a. b)
+  recover-ends = rw recovered (does-ends c 0 mem puts (freshMachine width l end) (stored (mem .home) writes) b (λ a. b) does)
 
   -- after a recovery answered done every home word is the committed one
   pub recover-faithful : stepped recover c m mem .answer ≡ 0 → (i : ℕ) → i < length (stepped recover c m mem .memory .home)
       → getD (stepped recover c m mem .memory .home) i 0 ≡ b .committed i
-  recover-faithful e =
-      let answer = ap (λ (o : Outcome). o .answer) (sym recovered) ∙ e in
-      let memory =
-      ap (λ (o : Outcome). o .memory) recovered
-      ∙ done-memory c mem writes (headStores l end) (freshMachine width l end) (stored (mem .home) writes) answer in
-      subst (λ (r : Memory). (i : ℕ) → i < length (r .home) → getD (r .home) i 0 ≡ b .committed i) (sym memory)
-      (λ i h. same i (rw length-stored at h))
+  recover-faithful e = rw recovered (go (decLe (length puts) c))
+    where
+      o : Outcome
+      o = performed c 0 mem puts (freshMachine width l end) (stored (mem .home) writes)
+
+      go : Dec (length puts ≤ c) → (i : ℕ) → i < length (o .memory .home) → getD (o .memory .home) i 0 ≡ b .committed i
+      go (yes h) =
+          rw (performed-all c 0 mem puts (freshMachine width l end) (stored (mem .home) writes) h, whole)
+          (λ i k. same i (rw length-stored at k))
+      go (no h) =
+          let cut : o .answer ≡ 255 =
+          ap (λ (x : Outcome). x .answer) (performed-cut c 0 mem puts (freshMachine width l end) (stored (mem .home) writes) (omega arith)) in
+          absurd (eqb-false 255 0 refl (sym cut ∙ ap (λ (x : Outcome). x .answer) (sym recovered) ∙ e))
+
+  -- with a supply of L + 1 it is done
+  pub recover-enough : length writes + 1 ≤ c → stepped recover c m mem .answer ≡ 0
+  recover-enough h =
+      let one = size-of-head l end (omega (arith, world .holds .least)) in
+      let size : length puts ≡ length writes + 1 = rw (length-append, length-map, length-map) (omega arith) in
+      rw (recovered, performed-all c 0 mem puts (freshMachine width l end) (stored (mem .home) writes) (omega arith))
+
+  -- it is done or cut
+  pub recover-answer : (stepped recover c m mem .answer ≡ 0) ⊎ (stepped recover c m mem .answer ≡ 255)
+  recover-answer =
+      rw recovered
+      (elim (decLe (length puts) c) [
+        | yes h ↦ inl (rw (performed-all c 0 mem puts (freshMachine width l end) (stored (mem .home) writes) h))
+        | no h ↦ inr (rw (performed-cut c 0 mem puts (freshMachine width l end) (stored (mem .home) writes) (omega arith)))
+      ])

@@ -3,18 +3,22 @@ use Prim.Native.Nat.{ℕ, suc, _-_, _≤_}
 use mathlib.Core.Path.{_≡_, refl, ap}
 use mathlib.Core.Bool.{Bool, true, false, cond}
 use mathlib.Core.List.{List, [], _∷_, _++_}
+use native.Mathlib.Decide.{decLe}
 use native.Mathlib.Omega.{arith}
 use lib.Dec.{leb}
-use lib.ListN.{length}
+use lib.ListN.{length, take, length-take}
+use lib.Seq.{take-nil}
+use Rattle.log.specs.Region.{slotsOf}
 use Rattle.model.specs.Machine.{Machine, Memory}
-use Rattle.model.specs.Plan.{Put, Plan, refused, planned, Outcome, performed, carriedOut}
-use Rattle.model.specs.Step.{Step, recover, planOf, taken, stepped}
+use Rattle.model.specs.Plan.{Put, putsOf, Plan, refused, planned, Outcome, performed, plannedPuts, carriedOut}
+use Rattle.model.specs.Step.{Step, recover, planOf, taken, stepped, putsMade}
 use Rattle.model.specs.Run.{Timed, World, outcome, after, HomeCommitted, Faithful, ran, answersOf, storesOf}
+use Rattle.model.proofs.Performing.{performed-all, performed-cut}
 
 -- no step hands back more than its supply
-left-performed : (c : ℕ) (mem : Memory) (ps : List Put) (next : Machine) (working : List ℕ) → performed c mem ps next working .left ≤ c
+left-performed : (c a : ℕ) (mem : Memory) (ps : List Put) (next : Machine) (working : List ℕ) → performed c a mem ps next working .left ≤ c
 unfolding performed
-left-performed c mem ps next working = pick (leb (length ps) c) _ _ (omega arith) (omega arith)
+left-performed c a mem ps next working = pick (leb (length ps) c) _ _ (omega arith) (omega arith)
   where
     pick : (t : Bool) (a b : Outcome) → a .left ≤ c → b .left ≤ c → cond t a b .left ≤ c
     pick true a b h k = h
@@ -23,11 +27,26 @@ left-performed c mem ps next working = pick (leb (length ps) c) _ _ (omega arith
 left-carried : (c : ℕ) (m : Machine) (mem : Memory) (n : ℕ) (p : Plan) → carriedOut c m mem n p .left ≤ c
 unfolding carriedOut
 left-carried c m mem n (refused k) = omega arith
-left-carried c m mem n (planned ops next working) = left-performed c mem _ next working
+left-carried c m mem n (planned a ops next working) = left-performed c a mem _ next working
 
 pub left-within : (s : Step) (c : ℕ) (m : Machine) (mem : Memory) → stepped s c m mem .left ≤ c
 unfolding stepped
-left-within s c m mem = left-carried c (taken s m) mem (m .tail) (planOf s m mem)
+left-within s c m mem = left-carried c (taken s m) mem (m .span .tail) (planOf s m mem)
+
+-- the stores that a step makes are as many as are taken off its supply
+puts-carried : (c : ℕ) (m : Machine) (mem : Memory) (n : ℕ) (p : Plan) → length (take c (plannedPuts mem n p)) ≡ c - carriedOut c m mem n p .left
+unfolding carriedOut plannedPuts
+puts-carried c m mem n (refused k) = rw take-nil (omega arith)
+puts-carried c m mem n (planned a ops next working) =
+    let ps : List Put = putsOf (slotsOf (mem .log)) n ops in
+    elim (decLe (length ps) c) [
+      | yes h ↦ rw (performed-all c a mem ps next working h, length-take) (omega arith)
+      | no h ↦ rw (performed-cut c a mem ps next working (omega arith), length-take) (omega arith)
+    ]
+
+pub puts-counted : (s : Step) (c : ℕ) (m : Machine) (mem : Memory) → length (putsMade s c m mem) ≡ c - stepped s c m mem .left
+unfolding stepped putsMade
+puts-counted s c m mem = puts-carried c (taken s m) mem (m .span .tail) (planOf s m mem)
 
 -- one list after another: the world, the answers, the stores
 pub ran-append : (w : World) (xs ys : List Timed) → ran w (xs ++ ys) ≡ ran (ran w xs) ys

@@ -8,14 +8,16 @@ use Rattle.parts.specs.Listed.{listed}
 use Rattle.parts.specs.States.{stateAt, withState}
 use Rattle.parts.specs.Waiting.{discarded, amended}
 use Rattle.model.specs.Lists.{keep, all, any}
-use Rattle.model.specs.Machine.{stateIn, holderIn, dirtyIn, changed, marked, allLogged}
+use Rattle.model.specs.Machine.{stateIn, holderIn, dirtyIn, changed, marked, wordsMarked, allLogged}
 use Rattle.model.specs.Consistent.{lineLimits, entryLimits, withinLimits, dirtyWait, redoClean, entriesHeld, holdersOpen, freeClean}
 use Rattle.model.specs.Consistent.{consistent, consistentWith}
 use Rattle.model.specs.Plan.{putsOf, homePart, logPart, written, performed, carriedOut}
-use Rattle.model.specs.Refusals.{unless, wrongLengths, wrongSize, isPending}
-use Rattle.model.specs.Steps.{beginPlan, storeLogs, storedAs, storeNext, storePlan, logUndoPlan, logRedoPlan, evicted, evictPlan}
-use Rattle.model.specs.Steps.{writeBackPlan, newestRedos, commitRecords, released, commitPlan, deletePlan}
-use Rattle.model.specs.Recovery.{redoWrites, undoWrites, records, recoverPlan}
+use Rattle.model.specs.Readings.{records}
+use Rattle.model.specs.Verdict.{judged, verdict}
+use Rattle.model.specs.Refusals.{unless, wrongLengths, wrongSize, isPending, noRoom}
+use Rattle.model.specs.Steps.{storeLogs, storedAs, storeNext, evicted, newestWords, newestRedos, prepareRecords, prepareNext, released}
+use Rattle.model.specs.Steps.{commitRecords}
+use Rattle.model.specs.Recovery.{redoWrites, undoWrites}
 use Rattle.model.specs.Step.{planOf, stepped}
 use Rattle.model.specs.Book.{settled, entered, noted}
 use Rattle.model.specs.Run.{after}
@@ -23,9 +25,8 @@ use Rattle.model.specs.Scenarios.{scenarios, linesPass, end, passes}
 
 pub scenarios-pass : all passes scenarios ≡ true
 unfolding stored slotStores decoded slotsFor recordStores headStores isWritten readBack searched readFrom listed stateAt withState
-    discarded amended keep all any stateIn holderIn dirtyIn changed marked allLogged lineLimits entryLimits withinLimits dirtyWait
+    discarded amended keep all any stateIn holderIn dirtyIn changed marked wordsMarked allLogged lineLimits entryLimits withinLimits dirtyWait
     redoClean entriesHeld holdersOpen freeClean consistent consistentWith putsOf homePart logPart written performed carriedOut
-    unless wrongLengths wrongSize isPending beginPlan storeLogs storedAs storeNext storePlan logUndoPlan logRedoPlan evicted
-    evictPlan writeBackPlan newestRedos commitRecords released commitPlan deletePlan redoWrites undoWrites records recoverPlan
-    planOf stepped settled entered noted after linesPass end passes
+    records judged verdict unless wrongLengths wrongSize isPending noRoom storeLogs storedAs storeNext evicted newestWords newestRedos
+    prepareRecords prepareNext released commitRecords redoWrites undoWrites planOf stepped settled entered noted after linesPass end passes
 scenarios-pass = refl

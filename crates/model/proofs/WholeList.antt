@@ -10,25 +10,25 @@ use lib.Dec.{leb, eqb}
 use lib.ListN.{length, length-append}
 use Rattle.log.specs.declared.Record.{Record}
 use Rattle.log.specs.declared.Record.the-variants.{UndoRedo, Redo, Commit}
-use Rattle.log.specs.Stores.{Store, stored}
-use Rattle.log.specs.Region.{headStores}
-use Rattle.log.proofs.Holding.{zeros, size-of-head}
-use Rattle.model.specs.Machine.{Machine, Memory, freshMachine}
+use Rattle.log.specs.Stores.{Store}
+use Rattle.log.specs.Region.{numbers}
+use Rattle.log.proofs.Holding.{zeros}
+use Rattle.model.specs.Machine.{Machine, Memory}
 use Rattle.model.specs.Consistent.{isWidth, consistentWith}
-use Rattle.model.specs.Plan.{Outcome}
-use Rattle.model.specs.Recovery.{closed, redoWrites, undoWrites, recoveryWrites, redoOfClosed, undoOfOpen}
+use Rattle.model.specs.Readings.{closed}
+use Rattle.model.specs.Recovery.{redoWrites, undoWrites, redoOfClosed, undoOfOpen}
 use Rattle.model.specs.Step.{Step, begin, store, logUndo, logRedo, evict, writeBack, commit, deleteOldest, recover, stepped}
 use Rattle.model.specs.Book.{Book, openedBook, entered, noted}
 use Rattle.model.specs.Run.{Timed, World, after, HomeCommitted, Faithful, start, Sized, WholeListClaim, ran, Recoverable, RecoverableClaim}
 use Rattle.model.proofs.Lists.{both-left, both-right}
 use Rattle.model.proofs.LastTo.{lastTo}
 use Rattle.model.proofs.Core.{Safe}
-use Rattle.model.proofs.Worlds.{Kept, Ready, live, dark, Ends, finished, stopped, live-kept}
-use Rattle.model.proofs.Performing.{enough}
-use Rattle.model.proofs.Steps.{ends-ready}
+use Rattle.model.proofs.Worlds.{Kept, Ready, live, dark, live-kept}
+use Rattle.model.proofs.Plans.{Ends, finished, stopped}
+use Rattle.model.proofs.Guarded.{After}
 use Rattle.model.proofs.EachStep.{begin-ready, store-ready, logUndo-ready, logRedo-ready, evict-ready, writeBack-ready, commit-ready}
 use Rattle.model.proofs.EachStep.{delete-ready}
-use Rattle.model.proofs.Recovering.{recovered, recover-ends, recover-faithful}
+use Rattle.model.proofs.Recovering.{recover-ends, recover-answer, recover-enough, recover-faithful}
 use Rattle.model.proofs.Consistency.{core-consistent}
 
 -- a world that is ready for recovery
@@ -49,13 +49,15 @@ recover-noted n b = pick (eqb n 0)
     pick false = refl
 
 recover-ready : {l : ℕ} (c : ℕ) (m : Machine) (mem : Memory) (b : Book) → Kept l mem (b .committed)
-    → Ready l (stepped recover c m mem .machine) (stepped recover c m mem .memory) (noted recover (stepped recover c m mem .answer) b)
-unfolding entered
-recover-ready c m mem b kept = ends-ready recover (stepped recover c m mem) b (recover-ends c m mem b kept)
+    → After l recover c m mem b
+recover-ready {l} c m mem b kept = rw recover-noted (ended (recover-ends c m mem b kept))
+  where
+    ended : Ends l (stepped recover c m mem) b (λ a. b) → Ready l (stepped recover c m mem .machine) (stepped recover c m mem .memory) b
+    ended (finished world) = live world
+    ended (stopped e lost kept) = dark lost kept
 
 -- every step leaves the world ready
-step-ready : {l : ℕ} (s : Step) (c : ℕ) (m : Machine) (mem : Memory) (b : Book) → Ready l m mem b
-    → Ready l (stepped s c m mem .machine) (stepped s c m mem .memory) (noted s (stepped s c m mem .answer) b)
+step-ready : {l : ℕ} (s : Step) (c : ℕ) (m : Machine) (mem : Memory) (b : Book) → Ready l m mem b → After l s c m mem b
 step-ready (begin t) c m mem b ready = begin-ready c m mem b ready t
 step-ready (store t w v) c m mem b ready = store-ready c m mem b ready t w v
 step-ready logUndo c m mem b ready = logUndo-ready c m mem b ready
@@ -95,7 +97,7 @@ faithful w [] ready = tt
 faithful w (s ∷ ss) ready =
     (home-committed w s (ready-kept (w .machine) (w .memory) (w .book) ready), faithful (after w s) ss (after-ready w s ready))
 
-narrow : (n : ℕ) → isWidth n ≡ true → n ≤ 2 ^ 48
+narrow : (n : ℕ) → isWidth n ≡ true → n ≤ numbers
 narrow n e = let h = leb-true n 512 (both-left (leb n 512) (eqb (n % 8) 0) (both-right (leb 8 n) (leb n 512 && eqb (n % 8) 0) e)) in omega arith
 
 -- the buffers at the start: a fresh log holds no record
@@ -153,27 +155,17 @@ ready-sound m mem b (live world) =
     (world .holds .first))
 ready-sound m mem b (dark lost kept) = inl lost
 
-ends-answer : {l : ℕ} (o : Outcome) (b book : Book) → Ends l o b book → (o .answer ≡ 0) ⊎ (o .answer ≡ 255)
-ends-answer o b book (finished e world) = inl e
-ends-answer o b book (stopped e lost kept) = inr e
-
 enough-supply : {l : ℕ} (c : ℕ) (m : Machine) (mem : Memory) (b : Book) → Kept l mem (b .committed) → l + 1 ≤ c → stepped recover c m mem .answer ≡ 0
-enough-supply {l} c m mem b kept h =
-    let n : ℕ = kept .head + length (kept .rs) in
+enough-supply c m mem b kept h =
     let few = few-writes (kept .rs) in
-    let room = kept .holds .room in
-    let least = kept .holds .least in
-    let one = size-of-head l n (omega arith) in
-    ap (λ (o : Outcome). o .answer) (recovered c m mem b kept)
-    ∙ enough c mem (recoveryWrites (kept .rs)) (headStores l n) (freshMachine (length (mem .home)) l n) (stored (mem .home) (recoveryWrites (kept .rs)))
-    (simp length-append (omega arith))
+    recover-enough c m mem b kept (rw length-append (omega (arith, kept .holds .room)))
 
 recoverable : {l : ℕ} (w : World) → ReadyWorld l w → Recoverable l w
 recoverable w ready =
     let kept = ready-kept (w .machine) (w .memory) (w .book) ready in
     record {
       never-refused =
-          λ c. ends-answer (stepped recover c (w .machine) (w .memory)) (w .book) (w .book) (recover-ends c (w .machine) (w .memory) (w .book) kept);
+          λ c. recover-answer c (w .machine) (w .memory) (w .book) kept;
       done-with = λ c h. enough-supply c (w .machine) (w .memory) (w .book) kept h;
       sound = ready-sound (w .machine) (w .memory) (w .book) ready;
     }

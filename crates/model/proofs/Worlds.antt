@@ -8,7 +8,6 @@ use Rattle.log.specs.declared.Record.{Record}
 use Rattle.log.specs.Holding.{Holds}
 use Rattle.model.specs.Machine.{Machine, Memory}
 use Rattle.model.specs.Consistent.{isWidth}
-use Rattle.model.specs.Plan.{Outcome}
 use Rattle.model.specs.Book.{Book}
 use Rattle.model.proofs.Core.{CoreOf, Safe, core-safe}
 
@@ -25,20 +24,15 @@ pub record Kept (l : ℕ) (mem : Memory) (s : ℕ → ℕ) : Type 0 where
 pub record Live (l : ℕ) (m : Machine) (mem : Memory) (b : Book) : Type 0 where
   pub rs : List Record
   pub alive : m .lost ≡ false
-  pub width : isWidth (m .words) ≡ true
-  pub slots : m .slots ≡ l
-  pub holds : Holds (m .words) l (mem .log) (m .head) rs
-  pub tail : m .tail ≡ m .head + length rs
+  pub width : isWidth (m .sizes .words) ≡ true
+  pub slots : m .sizes .slots ≡ l
+  pub holds : Holds (m .sizes .words) l (mem .log) (m .span .head) rs
+  pub tail : m .span .tail ≡ m .span .head + length rs
   pub core : CoreOf m (mem .home) (mem .working) b rs
 
 pub data Ready (l : ℕ) (m : Machine) (mem : Memory) (b : Book) : Type 0 where
   live : Live l m mem b → Ready l m mem b
   dark : m .lost ≡ true → Kept l mem (b .committed) → Ready l m mem b
-
--- How a step that is not refused ends: done, with the book after it, or cut, with the book before it.
-pub data Ends (l : ℕ) (o : Outcome) (before book : Book) : Type 0 where
-  finished : o .answer ≡ 0 → Live l (o .machine) (o .memory) book → Ends l o before book
-  stopped : o .answer ≡ 255 → o .machine .lost ≡ true → Kept l (o .memory) (before .committed) → Ends l o before book
 
 -- buffers of so many words that recovery can use
 pub kept : {l : ℕ} (words : ℕ) (mem : Memory) (s : ℕ → ℕ) (rs : List Record) (head : ℕ) → isWidth words ≡ true → length (mem .home) ≡ words
@@ -56,5 +50,5 @@ kept {l} words mem s rs head width size working holds safe =
 -- those of a live machine
 pub live-kept : {l : ℕ} (m : Machine) (mem : Memory) (b : Book) → Live l m mem b → Kept l mem (b .committed)
 live-kept m mem b world =
-    kept (m .words) mem (b .committed) (world .rs) (m .head) (world .width) (world .core .homeSize) (world .core .workingSize) (world .holds)
+    kept (m .sizes .words) mem (b .committed) (world .rs) (m .span .head) (world .width) (world .core .shape .homeSize) (world .core .shape .workingSize) (world .holds)
     (core-safe (world .core))

@@ -1,4 +1,4 @@
--- Document 01, "A state is unsound if ..": here its contrary, a consistent state, clause by clause in the order of the paper.
+-- Document 01, "A state is unsound if ..": here its contrary, a consistent state, clause by clause in the paper's order.
 use Prim.Native.Nat.{ℕ, _+_, _%_, _^_}
 use mathlib.Core.Bool.{Bool, _&&_, _||_, not}
 use mathlib.Core.List.{List}
@@ -29,30 +29,33 @@ entryLimits w e = ltb (e .thread) 8 && ltb (e .word) w
 
 unfoldable pub withinLimits : Machine → Bool
 withinLimits m =
-    (isWidth (m .words) && (leb 8 (m .slots) && leb (m .slots) 1024)) &&
-    ((leb (m .head) numbers && leb (m .tail) numbers) &&
+    (isWidth (m .sizes .words) && (leb 8 (m .sizes .slots) && leb (m .sizes .slots) 1024)) &&
+    ((leb (m .span .head) numbers && leb (m .span .tail) numbers) &&
     (all lineLimits (m .lines) &&
-    ((leb (length (m .undoRedo)) 16 && leb (length (m .redo)) 32) &&
-    (all (entryLimits (m .words)) (m .undoRedo) && all (entryLimits (m .words)) (m .redo)))))
+    ((leb (length (m .buffers .undoRedo)) 16 && leb (length (m .buffers .redo)) 32) &&
+    (all (entryLimits (m .sizes .words)) (m .buffers .undoRedo) &&
+    all (entryLimits (m .sizes .words)) (m .buffers .redo)))))
 
 -- "head, tail and L don't satisfy head ≤ tail ≤ head + L"
 abbrev pub inOrder : Machine → Bool
-inOrder m = leb (m .head) (m .tail) && leb (m .tail) (m .head + m .slots)
+inOrder m = leb (m .span .head) (m .span .tail) && leb (m .span .tail) (m .span .head + m .sizes .slots)
 
 -- "a Dirty word hasn't exactly one undo+redo entry, or such an entry's word isn't Dirty"
 unfoldable pub dirtyWait : Machine → Bool
 dirtyWait m =
-    all (λ w. not (eqb (stateIn (m .lines) w) Dirty) || eqb (length (entriesOf w (m .undoRedo))) 1) (upTo (m .words)) &&
-    all (λ e. eqb (stateIn (m .lines) (e .word)) Dirty) (m .undoRedo)
+    all (λ w. not (eqb (stateIn (m .lines) w) Dirty) || eqb (length (entriesOf w (m .buffers .undoRedo))) 1)
+    (upTo (m .sizes .words)) &&
+    all (λ e. eqb (stateIn (m .lines) (e .word)) Dirty) (m .buffers .undoRedo)
 
 -- "a redo entry's word isn't Clean or has two of them"
 unfoldable pub redoClean : Machine → Bool
 redoClean m =
-    all (λ e. eqb (stateIn (m .lines) (e .word)) Clean && eqb (length (entriesOf (e .word) (m .redo))) 1) (m .redo)
+    all (λ e. eqb (stateIn (m .lines) (e .word)) Clean && eqb (length (entriesOf (e .word) (m .buffers .redo))) 1)
+    (m .buffers .redo)
 
 -- "an entry's thread isn't its line's holder"
 unfoldable pub entriesHeld : Machine → Bool
-entriesHeld m = all held (m .undoRedo) && all held (m .redo)
+entriesHeld m = all held (m .buffers .undoRedo) && all held (m .buffers .redo)
   where
     held : Entry → Bool
     held e = eqb (e .thread) (holderIn (m .lines) (e .word))
@@ -72,4 +75,4 @@ consistent m =
 
 -- "log word 0 isn't the head"
 unfoldable pub consistentWith : Machine → List ℕ → Bool
-consistentWith m log = consistent m && eqb (headOf log) (m .head)
+consistentWith m log = consistent m && eqb (headOf log) (m .span .head)

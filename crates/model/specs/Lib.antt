@@ -3,6 +3,8 @@ pub mod Lists
 pub mod Machine
 pub mod Consistent
 pub mod Plan
+pub mod Readings
+pub mod Verdict
 pub mod Refusals
 pub mod Steps
 pub mod Recovery

@@ -9,17 +9,29 @@ use Rattle.parts.specs.Lines.{freeLine}
 use Rattle.parts.specs.States.{stateAt, withState, URLog}
 use Rattle.parts.specs.Listed.{listed}
 
--- The state. `lost` is document 01's "dark"; the buffers are lists, oldest entry first; a redo entry's undo is 0.
-pub record Machine : Type 0 where
-  pub lost : Bool
+-- W and L, the numbers of words and of slots
+pub record Sizes : Type 0 where
   pub words : ℕ
   pub slots : ℕ
+
+-- "The head is the number of the oldest record kept, the tail that of the next one."
+pub record Span : Type 0 where
   pub head : ℕ
   pub tail : ℕ
-  pub opened : List Bool
-  pub lines : List Line
+
+-- the undo+redo buffer and the redo buffer, oldest entry first; a redo entry's undo is 0
+pub record Buffers : Type 0 where
   pub undoRedo : List Entry
   pub redo : List Entry
+
+-- The state. `lost` is document 01's "dark".
+pub record Machine : Type 0 where
+  pub lost : Bool
+  pub sizes : Sizes
+  pub span : Span
+  pub opened : List Bool
+  pub lines : List Line
+  pub buffers : Buffers
 
 -- The three lent buffers.
 pub record Memory : Type 0 where
@@ -27,19 +39,20 @@ pub record Memory : Type 0 where
   pub working : List ℕ
   pub log : List ℕ
 
+-- no entry waits
+abbrev pub noEntries : Buffers
+noEntries = record { undoRedo = []; redo = [] }
+
 -- "dark: one fixed value, its other numbers 0"
 abbrev pub lostMachine : Machine
 lostMachine =
     record {
       lost = true;
-      words = 0;
-      slots = 0;
-      head = 0;
-      tail = 0;
+      sizes = record { words = 0; slots = 0 };
+      span = record { head = 0; tail = 0 };
       opened = replicate 8 false;
       lines = [];
-      undoRedo = [];
-      redo = [];
+      buffers = noEntries;
     }
 
 -- "the new state has empty buffers, all Clean, unheld, not dirty, no transaction"
@@ -47,104 +60,45 @@ abbrev pub freshMachine : ℕ → ℕ → ℕ → Machine
 freshMachine w l n =
     record {
       lost = false;
-      words = w;
-      slots = l;
-      head = n;
-      tail = n;
+      sizes = record { words = w; slots = l };
+      span = record { head = n; tail = n };
       opened = replicate 8 false;
       lines = replicate (w / 8) freeLine;
-      undoRedo = [];
-      redo = [];
+      buffers = noEntries;
     }
 
 -- one part of the state replaced
-abbrev pub withHead : ℕ → Machine → Machine
-withHead n m =
-    record {
-      lost = m .lost;
-      words = m .words;
-      slots = m .slots;
-      head = n;
-      tail = m .tail;
-      opened = m .opened;
-      lines = m .lines;
-      undoRedo = m .undoRedo;
-      redo = m .redo;
-    }
-
-abbrev pub withTail : ℕ → Machine → Machine
-withTail n m =
-    record {
-      lost = m .lost;
-      words = m .words;
-      slots = m .slots;
-      head = m .head;
-      tail = n;
-      opened = m .opened;
-      lines = m .lines;
-      undoRedo = m .undoRedo;
-      redo = m .redo;
-    }
+abbrev pub withSpan : Span → Machine → Machine
+withSpan n m =
+    record { lost = m .lost; sizes = m .sizes; span = n; opened = m .opened; lines = m .lines; buffers = m .buffers }
 
 abbrev pub withOpened : List Bool → Machine → Machine
 withOpened o m =
-    record {
-      lost = m .lost;
-      words = m .words;
-      slots = m .slots;
-      head = m .head;
-      tail = m .tail;
-      opened = o;
-      lines = m .lines;
-      undoRedo = m .undoRedo;
-      redo = m .redo;
-    }
+    record { lost = m .lost; sizes = m .sizes; span = m .span; opened = o; lines = m .lines; buffers = m .buffers }
 
 abbrev pub withLines : List Line → Machine → Machine
 withLines ls m =
-    record {
-      lost = m .lost;
-      words = m .words;
-      slots = m .slots;
-      head = m .head;
-      tail = m .tail;
-      opened = m .opened;
-      lines = ls;
-      undoRedo = m .undoRedo;
-      redo = m .redo;
-    }
+    record { lost = m .lost; sizes = m .sizes; span = m .span; opened = m .opened; lines = ls; buffers = m .buffers }
+
+abbrev pub withBuffers : Buffers → Machine → Machine
+withBuffers b m =
+    record { lost = m .lost; sizes = m .sizes; span = m .span; opened = m .opened; lines = m .lines; buffers = b }
+
+abbrev pub withHead : ℕ → Machine → Machine
+withHead n m = withSpan (record { head = n; tail = m .span .tail }) m
+
+abbrev pub withTail : ℕ → Machine → Machine
+withTail n m = withSpan (record { head = m .span .head; tail = n }) m
 
 abbrev pub withUndoRedo : List Entry → Machine → Machine
-withUndoRedo es m =
-    record {
-      lost = m .lost;
-      words = m .words;
-      slots = m .slots;
-      head = m .head;
-      tail = m .tail;
-      opened = m .opened;
-      lines = m .lines;
-      undoRedo = es;
-      redo = m .redo;
-    }
+withUndoRedo es m = withBuffers (record { undoRedo = es; redo = m .buffers .redo }) m
 
 abbrev pub withRedo : List Entry → Machine → Machine
-withRedo es m =
-    record {
-      lost = m .lost;
-      words = m .words;
-      slots = m .slots;
-      head = m .head;
-      tail = m .tail;
-      opened = m .opened;
-      lines = m .lines;
-      undoRedo = m .undoRedo;
-      redo = es;
-    }
+withRedo es m = withBuffers (record { undoRedo = m .buffers .undoRedo; redo = es }) m
 
 -- "Free slots are L − (tail − head)"
 abbrev pub freeSlots : Machine → ℕ
-freeSlots m = m .slots - (m .tail - m .head)
+freeSlots m = m .sizes .slots - (m .span .tail - m .span .head)
 
 -- thread t has an open transaction
 abbrev pub isOpen : Machine → ℕ → Bool
@@ -184,6 +138,11 @@ changed f i ls = set ls i (f (lineOf ls i))
 -- the lines with the state of word w replaced
 unfoldable pub marked : ℕ → ℕ → List Line → List Line
 marked s w ls = changed (λ line. statesAs (withState (line .states) (w % 8) s) line) (w / 8) ls
+
+-- the lines with the states of several words replaced
+unfoldable pub wordsMarked : ℕ → List ℕ → List Line → List Line
+wordsMarked s [] ls = ls
+wordsMarked s (w ∷ ws) ls = wordsMarked s ws (marked s w ls)
 
 -- "its word becomes URLog, as it does whenever such an entry is logged"
 unfoldable pub allLogged : List Entry → List Line → List Line

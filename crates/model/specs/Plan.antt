@@ -38,10 +38,10 @@ logPart [] = []
 logPart (inHome s ∷ ps) = logPart ps
 logPart (inLog s ∷ ps) = s ∷ logPart ps
 
--- A step is refused under a number, or it is planned: what it writes, the state after it, and the working words after it.
+-- A step is refused under a number, or it is planned: its answer, what it writes, the state and working words after it.
 pub data Plan : Type 0 where
   refused : ℕ → Plan
-  planned : List Op → Machine → List ℕ → Plan
+  planned : ℕ → List Op → Machine → List ℕ → Plan
 
 -- What a step hands back: the answer, the count left, the state and the buffers.
 pub record Outcome : Type 0 where
@@ -62,12 +62,13 @@ unfoldable pub written : Memory → List Put → List ℕ → Memory
 written mem ps working =
     record { home = stored (mem .home) (homePart ps); working = working; log = stored (mem .log) (logPart ps) }
 
--- "If it is longer than the count c, its first c are made, the answer is 255 (cut), the count left is 0, all working words
--- become 0, and the returned state is dark. Otherwise all are made, the answer is 0 (done), and c less the number of stores is left."
-unfoldable pub performed : ℕ → Memory → List Put → Machine → List ℕ → Outcome
-performed c mem ps next working =
+-- "If it is longer than the count c, its first c are made, the answer is 255 (cut), the count left is 0, all working
+-- words become 0, and the returned state is dark. Otherwise all are made", the answer is the plan's, "and c less the
+-- number of stores is left."
+unfoldable pub performed : ℕ → ℕ → Memory → List Put → Machine → List ℕ → Outcome
+performed c answer mem ps next working =
     cond (leb (length ps) c)
-    (record { answer = done; left = c - length ps; machine = next; memory = written mem ps working })
+    (record { answer = answer; left = c - length ps; machine = next; memory = written mem ps working })
     (record {
       answer = cut;
       left = 0;
@@ -75,7 +76,25 @@ performed c mem ps next working =
       memory = written mem (take c ps) (replicate (length (mem .working)) 0);
     })
 
--- "State, buffers and count are unchanged" where a step is refused; n is the number of the next record
+-- the stores of a plan, n being the number of the next record
+unfoldable pub plannedPuts : Memory → ℕ → Plan → List Put
+plannedPuts mem n (refused k) = []
+plannedPuts mem n (planned answer ops next working) = putsOf (slotsOf (mem .log)) n ops
+
+-- "State, buffers and count are unchanged" where a step is refused
 unfoldable pub carriedOut : ℕ → Machine → Memory → ℕ → Plan → Outcome
 carriedOut c m mem n (refused k) = record { answer = k; left = c; machine = m; memory = mem }
-carriedOut c m mem n (planned ops next working) = performed c mem (putsOf (slotsOf (mem .log)) n ops) next working
+carriedOut c m mem n (planned answer ops next working) =
+    performed c answer mem (putsOf (slotsOf (mem .log)) n ops) next working
+
+-- what a plan writes before another
+abbrev pub preceded : List Op → Plan → Plan
+preceded ops (refused k) = refused k
+preceded ops (planned answer more next working) = planned answer (ops ++ more) next working
+
+-- A plan, then another on the state and the memory that the first leaves: their operations are one list under one
+-- supply, and the first of them that is refused refuses the whole.
+unfoldable pub andThen : Memory → ℕ → Plan → (Machine → Memory → Plan) → Plan
+andThen mem n (refused k) then = refused k
+andThen mem n (planned answer ops next working) then =
+    preceded ops (then next (written mem (putsOf (slotsOf (mem .log)) n ops) working))

@@ -4,12 +4,11 @@ use mathlib.Core.Bool.{Bool, cond, _&&_, _||_, not}
 use mathlib.Core.List.{List, [], _∷_}
 use lib.Dec.{eqb, ltb, leb}
 use lib.ListN.{length}
-use Rattle.log.specs.declared.Record.{Record}
 use Rattle.log.specs.Region.{numbers, slotsOf}
 use Rattle.parts.specs.States.{Dirty}
 use Rattle.model.specs.Lists.{any}
 use Rattle.model.specs.Machine.{Machine, Memory, freeSlots, isOpen, stateIn, wordsOf}
-use Rattle.model.specs.Consistent.{isWidth, consistentWith}
+use Rattle.model.specs.Consistent.{isWidth, consistent, consistentWith}
 use Rattle.model.specs.Plan.{Plan, refused}
 
 -- the table's numbers; `lost` is its "dark", `inconsistent` its "unsound", `exhausted` its "worn"
@@ -86,7 +85,8 @@ wrongLengths mem =
 unfoldable pub wrongSize : Machine → Memory → Bool
 wrongSize m mem =
     wrongLengths mem ||
-    (not (m .lost) && (not (eqb (length (mem .home)) (m .words)) || not (eqb (slotsOf (mem .log)) (m .slots))))
+    (not (m .lost) &&
+    (not (eqb (length (mem .home)) (m .sizes .words)) || not (eqb (slotsOf (mem .log)) (m .sizes .slots))))
 
 -- the rows of every step that is lent the buffers and takes a state
 abbrev pub common : Machine → Memory → List Row
@@ -96,16 +96,20 @@ common m mem =
     ∷ row (not (consistentWith m (mem .log))) inconsistent
     ∷ []
 
+-- those of begin, which is lent no buffers
+abbrev pub stateRows : Machine → List Row
+stateRows m = row (m .lost) lost ∷ row (not (consistent m)) inconsistent ∷ []
+
 -- "number above 7"
 abbrev pub unknownThread : ℕ → Row
 unknownThread t = row (ltb 7 t) thread
 
 -- "word not below W", and "line not below W/8"
 abbrev pub unknownWord : Machine → ℕ → Row
-unknownWord m w = row (leb (m .words) w) place
+unknownWord m w = row (leb (m .sizes .words) w) place
 
 abbrev pub unknownLine : Machine → ℕ → Row
-unknownLine m i = row (leb (m .words / 8) i) place
+unknownLine m i = row (leb (m .sizes .words / 8) i) place
 
 -- "store or commit without an open transaction"
 abbrev pub notOpen : Machine → ℕ → Row
@@ -115,9 +119,7 @@ notOpen m t = row (not (isOpen m t)) idle
 unfoldable pub isPending : Machine → ℕ → Bool
 isPending m i = any (λ w. eqb (stateIn (m .lines) w) Dirty) (wordsOf i)
 
--- "the step's records outnumber the free slots", and "a record would get a number of 2^48 or more"
-abbrev pub noRoom : Machine → List Record → List Row
-noRoom m records =
-    row (ltb (freeSlots m) (length records)) full
-    ∷ row (ltb 0 (length records) && ltb numbers (m .tail + length records)) exhausted
-    ∷ []
+-- "the step's records outnumber the free slots", and "a record would get a number of 2^48 or more": the step logs n
+unfoldable pub noRoom : Machine → Memory → ℕ → List Row
+noRoom m mem n =
+    row (ltb (freeSlots m) n) full ∷ row (ltb 0 n && ltb numbers (m .span .tail + n)) exhausted ∷ []

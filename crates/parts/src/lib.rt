@@ -51,3 +51,26 @@ pub struct Lines {
     pub dirty: [bool; 64],
     pub states: [u16; 64],
 }
+
+// One of the nine steps.
+pub enum Step {
+    Begin { thread: u64 },
+    Store { thread: u64, word: u64, value: u64 },
+    LogUndo,
+    LogRedo,
+    Evict { line: u64 },
+    WriteBack { line: u64 },
+    Commit { thread: u64 },
+    DeleteOldest,
+    Recover,
+}
+
+// The verdict on the oldest record of a log: there is none, it is bad, its transaction is open, its line needs it, or
+// it may be deleted.
+pub enum Verdict {
+    Nothing,
+    Damaged,
+    Open,
+    Needed,
+    Spare,
+}

@@ -1,6 +1,5 @@
 // The changes of the cases 13 to 29: they "change the state and nothing else".
 use crate::disturbing::Trouble;
-use crate::numbers::END;
 use crate::numbers::MAX;
 use crate::numbers::either;
 use crate::numbers::less;
@@ -8,6 +7,7 @@ use crate::numbers::one_of;
 use crate::numbers::rest;
 use crate::numbers::sum;
 use crate::setup::Plan;
+use log::NUMBERS;
 use parts::Lines;
 use parts::RedoBuffer;
 use parts::UndoBuffer;
@@ -37,12 +37,12 @@ fn limits(mut state: Fields, case: u64, a: u64) -> Fields {
     state.slots = short(either(case == 14, one_of(a, 7, 1025, 8, 1024), l));
     state.head = either(
         case == 15,
-        one_of(a, sum(head, 1), after, END + 1, MAX),
+        one_of(a, sum(head, 1), after, NUMBERS + 1, MAX),
         head,
     );
     state.tail = either(
         case == 16,
-        one_of(a, after, sum(end, 1), END + 1, before),
+        one_of(a, after, sum(end, 1), NUMBERS + 1, before),
         tail,
     );
     state

@@ -2,7 +2,6 @@
 use crate::generator::draw_from;
 use crate::generator::draw_if;
 use crate::generator::raw;
-use crate::numbers::END;
 use crate::numbers::MAX;
 use crate::numbers::either;
 use crate::numbers::less;
@@ -14,6 +13,7 @@ use crate::setup::Plan;
 use crate::tables::DELETE;
 use crate::tables::RECOVER;
 use crate::tables::SET_DOWN;
+use log::NUMBERS;
 use state::CUT;
 use state::DAMAGED;
 use state::DONE;
@@ -135,7 +135,7 @@ impl Trouble {
             high,
             either(self.case == 11, high, 58),
         );
-        let other = one_of(self.a, sum(head, 1), END, END + 1, MAX);
+        let other = one_of(self.a, sum(head, 1), NUMBERS, NUMBERS + 1, MAX);
         either(self.case == 5, other, old ^ (1 << (bit % 64)))
     }
 

@@ -14,7 +14,7 @@ use crate::tables::STORE;
 use crate::tables::WRITE_HOME;
 use machine::Answer;
 use machine::State;
-use steps::Step;
+use parts::Step;
 
 // The step of kind k, with thread t, word or line p and value v, "as far as the kind takes them"
 fn step_of(run: Run) -> Step {

@@ -1,9 +1,6 @@
 // "All numbers are 64-bit words; `+` and `<<` drop what goes beyond bit 63."
 pub const MAX: u64 = 0xffff_ffff_ffff_ffff;
 
-// 2^48
-pub const END: u64 = 0x1_0000_0000_0000;
-
 pub fn sum(a: u64, b: u64) -> u64 {
     std::num::wrapping_add_u64(a, b)
 }

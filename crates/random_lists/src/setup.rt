@@ -3,12 +3,12 @@ use crate::generator::draw;
 use crate::generator::draw_from;
 use crate::generator::pick;
 use crate::generator::raw;
-use crate::numbers::END;
 use crate::numbers::either;
 use crate::numbers::less;
 use crate::numbers::nth;
 use crate::numbers::rest;
 use crate::numbers::sum;
+use log::NUMBERS;
 
 // What is drawn for a list, and the generator's x after it. `w` and `l` are W and L.
 pub struct Plan {
@@ -97,7 +97,7 @@ impl Plan {
         let lines = 1 + span / 8;
         let high = draw(self.x, 2);
         let near = draw(high.x, 3 * l);
-        let head = pick(near.x, 0, 0, 5 * l + 3, less(END, near.r));
+        let head = pick(near.x, 0, 0, 5 * l + 3, less(NUMBERS, near.r));
         self.span = span;
         self.threads = either(lines < self.threads, lines, self.threads);
         self.base = either(high.r == 0, 0, less(self.w, span));

@@ -2,5 +2,5 @@
 pub mod ReadOn
 pub mod Scanning
 pub mod TwoPasses
-pub mod DeleteRows
+pub mod OldestRecord
 pub mod RecoverStep

@@ -6,20 +6,19 @@ use mathlib.Core.List.{List, [], _∷_}
 use native.Mathlib.Decide.{decLt, ℕ-discrete}
 use native.Mathlib.Omega.{arith}
 use borrow.Author.Tests.{lt-ltb, le-ltb, eq-eqb, ne-eqb}
-use lib.Dec.{eqb, ltb}
+use lib.Dec.{ltb}
 use lib.ListN.{length, getD, replicate, getD-replicate, length-set}
 use lib.Seq.{getD-set-same, getD-set-other}
 use Rattle.log.specs.declared.Record.the-variants.{UndoRedo, Redo, Commit}
 use Rattle.log.specs.declared.Reading.{Reading}
 use Rattle.log.specs.declared.Reading.the-variants.{Good, Bad}
 use Rattle.log.specs.Region.{slotsOf, headOf, isWritten, readBack, readFrom, searched, tailOf}
-use Rattle.log.proofs.Searching.{search-ends, search-goes-on, read-last}
+use Rattle.log.proofs.Searching.{search-ends, search-goes-on, read-none, read-last}
 use Rattle.model.specs.Lists.{any}
-use Rattle.model.specs.Steps.{isBad, isCommitOf}
-use Rattle.model.specs.Recovery.{closed, records}
+use Rattle.model.specs.Readings.{isBad}
 use Rattle.model.proofs.Records.{any-append}
-use Rattle.recovery.specs.Recovering.{noted, Lasts, Scanned}
-use Rattle.recovery.proofs.ReadOn.{any-none}
+use Rattle.recovery.specs.Recovering.{closes, noted, Lasts, Scanned}
+use Rattle.recovery.proofs.ReadOn.{closed-read, closed-none}
 
 -- eight numbers stay eight
 size-noted : (n : ℕ) (x : Reading) (last : List ℕ) → length last ≡ 8 → length (noted n x last) ≡ 8
@@ -30,7 +29,7 @@ size-noted n Bad last e = e
 
 -- a commit is the last one of its thread, and any other record of none
 last-noted : (n : ℕ) (x : Reading) (last : List ℕ) → length last ≡ 8 → (t : ℕ) → t < 8
-    → getD (noted n x last) t 0 ≡ cond (isCommitOf t x) n (getD last t 0)
+    → getD (noted n x last) t 0 ≡ cond (closes t x) n (getD last t 0)
 last-noted n (Good (UndoRedo s w u r)) last e t h = refl
 last-noted n (Good (Redo s w r)) last e t h = refl
 last-noted n (Good (Commit s)) last e t h =
@@ -40,14 +39,10 @@ last-noted n (Good (Commit s)) last e t h =
     ]
 last-noted n Bad last e t h = refl
 
--- a record closes the ones before it, read back or not
-closed-read : (t : ℕ) (xs : List Reading) → closed t (records xs) ≡ any (isCommitOf t) xs
-unfolding any records
-closed-read t [] = refl
-closed-read t (Good (UndoRedo s w u r) ∷ xs) = closed-read t xs
-closed-read t (Good (Redo s w r) ∷ xs) = closed-read t xs
-closed-read t (Good (Commit s) ∷ xs) = ap (λ (b : Bool). eqb s t || b) (closed-read t xs)
-closed-read t (Bad ∷ xs) = closed-read t xs
+-- no record passes a test where there are none
+any-none : (f : Reading → Bool) (words : ℕ) (log : List ℕ) (n : ℕ) → false ≡ any f (readFrom (n - n) words log n)
+unfolding any
+any-none f words log n = rw (read-none words log n n (omega arith))
 
 -- What is found when some records are read, and at most `left` may yet be.
 pub record Sofar (words : ℕ) (log : List ℕ) (left tail : ℕ) (bad : Bool) (last : List ℕ) : Type 0 where
@@ -64,7 +59,7 @@ sofar-start words log =
     record {
       on = refl;
       order = omega arith;
-      damage = any-none isBad words log (headOf log) (headOf log) (omega arith);
+      damage = any-none isBad words log (headOf log);
       lasts = λ t n h lo hi. absurd (omega arith);
       size = refl;
       small = λ t h. let e : _≡_ {A = ℕ} (getD (replicate 8 0) t 0) 0 = getD-replicate 8 t 0 0 h in omega arith;
@@ -97,12 +92,12 @@ module _ (words : ℕ) (log : List ℕ) (left tail : ℕ) (bad : Bool) (last : L
 
   -- a record before the new one is closed by it, or as before
   last-before : (t i : ℕ) → t < 8 → headOf log ≤ i → i < tail → (b : Bool)
-      → ltb i (cond b tail (getD last t 0)) ≡ (any (isCommitOf t) (readFrom (tail - (i + 1)) words log (i + 1)) || b)
-  last-before t i h lo hi true = lt-ltb i tail hi ∙ sym (or-true (any (isCommitOf t) (readFrom (tail - (i + 1)) words log (i + 1))))
+      → ltb i (cond b tail (getD last t 0)) ≡ (any (closes t) (readFrom (tail - (i + 1)) words log (i + 1)) || b)
+  last-before t i h lo hi true = lt-ltb i tail hi ∙ sym (or-true (any (closes t) (readFrom (tail - (i + 1)) words log (i + 1))))
   last-before t i h lo hi false =
       s .lasts t i h lo hi
       ∙ closed-read t (readFrom (tail - (i + 1)) words log (i + 1))
-      ∙ sym (or-false (any (isCommitOf t) (readFrom (tail - (i + 1)) words log (i + 1))))
+      ∙ sym (or-false (any (closes t) (readFrom (tail - (i + 1)) words log (i + 1))))
 
   -- the new one is not
   last-new : (t : ℕ) → t < 8 → (b : Bool) → cond b tail (getD last t 0) ≤ tail
@@ -112,15 +107,17 @@ module _ (words : ℕ) (log : List ℕ) (left tail : ℕ) (bad : Bool) (last : L
   lasts-more : Lasts words log (headOf log) (tail + 1) (noted tail (readBack words log tail) last)
   lasts-more t i h lo hi =
       let x = readBack words log tail in
-      let b = isCommitOf t x in
+      let b = closes t x in
       ap (ltb i) (last-noted tail x last (s .size) t h)
       ∙ elim (decLt i tail) [
-        | yes p ↦ last-before t i h lo p b ∙ sym (any-more (isCommitOf t) words log (i + 1) tail (omega arith))
+        | yes p ↦
+            last-before t i h lo p b
+            ∙ sym (any-more (closes t) words log (i + 1) tail (omega arith))
+            ∙ sym (closed-read t (readFrom (tail + 1 - (i + 1)) words log (i + 1)))
         | no q ↦
             le-ltb i (cond b tail (getD last t 0)) (let f = last-new t h b in omega arith)
-            ∙ any-none (isCommitOf t) words log (i + 1) (tail + 1) (omega arith)
+            ∙ closed-none t words log (i + 1) (tail + 1) (omega arith)
       ]
-      ∙ sym (closed-read t (readFrom (tail + 1 - (i + 1)) words log (i + 1)))
 
   -- after one more is read
   pub sofar-more : 0 < left → isWritten log tail ≡ true
@@ -136,6 +133,6 @@ module _ (words : ℕ) (log : List ℕ) (left tail : ℕ) (bad : Bool) (last : L
         size = size-noted tail x last (s .size);
         small = λ t h.
             let e = last-noted tail x last (s .size) t h in
-            let f = last-new t h (isCommitOf t x) in
+            let f = last-new t h (closes t x) in
             omega arith;
       }

@@ -13,7 +13,8 @@ use Rattle.log.specs.Stores.{Store, storedUnder}
 use Rattle.log.specs.Region.{headOf, readBack, readFrom, recordsOf}
 use Rattle.log.proofs.Stored.{length-stored, under-append, under-none}
 use Rattle.log.proofs.Searching.{read-none, read-next}
-use Rattle.model.specs.Recovery.{closed, redoWrites, undoWrites, recoveryWrites, records}
+use Rattle.model.specs.Readings.{records, closed}
+use Rattle.model.specs.Recovery.{redoWrites, undoWrites, recoveryWrites}
 use Rattle.recovery.specs.declared.reading.Found.{Found}
 use Rattle.recovery.specs.declared.passes.Write.{Write}
 use Rattle.recovery.specs.Replaying.{replayStores, replayed}

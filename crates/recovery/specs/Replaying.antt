@@ -6,8 +6,8 @@ use lib.ListN.{length}
 use Rattle.log.specs.Stores.{Store}
 use Rattle.log.specs.Region.{tailOf, recordsOf}
 use Rattle.model.specs.Lists.{any}
-use Rattle.model.specs.Steps.{isBad}
-use Rattle.model.specs.Recovery.{recoveryWrites, records}
+use Rattle.model.specs.Readings.{isBad, records}
+use Rattle.model.specs.Recovery.{recoveryWrites}
 use Rattle.recovery.specs.declared.replaying.Replayed.{Replayed}
 
 -- the stores into home; a damaged log stores nothing

@@ -2,14 +2,14 @@
 ghost use mathlib.Core.Path.{_≡_};
 ghost use Prim.Native.Nat.{_-_};
 ghost use Rattle.log.specs.Region.{readFrom};
-ghost use Rattle.model.specs.Lists.{any};
-ghost use Rattle.model.specs.Steps.{isCommitOf};
+ghost use Rattle.model.specs.Readings.{records, closed};
+ghost use Rattle.recovery.specs.Recovering.{closes as closesThread};
 use log::Reading;
 use log::Record;
 
-// A commit of the thread; a bad record is none.
-fn is_commit_of(reading: Reading, thread: u8) -> bool
-    ensures { λ r. ⌜ r ≡ isCommitOf thread reading ⌝ }
+// The record is a commit of the thread; a bad one is none.
+fn closes(reading: Reading, thread: u8) -> bool
+    ensures { λ r. ⌜ r ≡ closesThread thread reading ⌝ }
 {
     match reading {
         Reading::Good(entry) => match entry {
@@ -32,11 +32,11 @@ fn is_commit_of(reading: Reading, thread: u8) -> bool
 
 // Whether the thread has a commit among the records from one number up to another.
 pub fn has_commit(log: &[u64], from: u64, to: u64, words: u16, thread: u8) -> bool
-    ensures { λ r. ⌜ r ≡ any (isCommitOf thread) (readFrom (to - from) words (now (log .entry)) from) ⌝ }
+    ensures { λ r. ⌜ r ≡ closed thread (records (readFrom (to - from) words (now (log .entry)) from)) ⌝ }
 {
     let mut number = from;
     while number < to {
-        if is_commit_of(log::read(log, number, words), thread) {
+        if closes(log::read(log, number, words), thread) {
             return true;
         }
         number += 1;

@@ -1,7 +1,7 @@
 // The reading of a recovery: every record once, from the head on.
 ghost use mathlib.Core.Path.{_≡_};
 ghost use Rattle.log.specs.Region.{readBack};
-ghost use Rattle.model.specs.Steps.{isBad};
+ghost use Rattle.model.specs.Readings.{isBad};
 ghost use Rattle.recovery.specs.Recovering.{noted, Scanned};
 use log::Reading;
 use log::Record;

@@ -8,6 +8,7 @@ ghost use Rattle.model.specs.Step.{recover as recoverStep, stepped};
 ghost use Rattle.state.specs.View.{view, memory, shown};
 ghost use Rattle.recovery.specs.Recovering.{unreadableRows};
 use crate::replaying::replay;
+use log::NUMBERS;
 use parts::Lines;
 use parts::RedoBuffer;
 use parts::UndoBuffer;
@@ -40,7 +41,7 @@ fn unreadable(home: &[u64], working: &[u64], log: &[u64]) -> u64
     if wrong_lengths(home, working, log) {
         return SIZE;
     }
-    if 0x1_0000_0000_0000 < log::head(log) {
+    if NUMBERS < log::head(log) {
         return HEAD;
     }
     0

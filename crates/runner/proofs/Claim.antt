@@ -6,7 +6,6 @@ use mathlib.Core.List.{List, [], _∷_, _++_}
 use native.Mathlib.Omega.{arith}
 use lib.ListN.{length, getD, length-append}
 use lib.Seq.{getD-at}
-use Rattle.model.specs.Machine.{lostMachine}
 use Rattle.model.specs.Plan.{done, cut}
 use Rattle.model.specs.Run.{Timed, World, outcome, start, HomeCommitted, ran, answersOf}
 use Rattle.model.proofs.Running.{answers-append, faithful-last}
@@ -24,9 +23,9 @@ last-answer w xs s =
 
 -- the whole-list claim, at the last step of a list that ends with a recovery
 pub code-claim : CodeClaim
-code-claim l home working sized c steps d e =
-    let w : World = start lostMachine home working l in
-    faithful-last w (recovery c ∷ steps) (recovery d) (whole-list l home working sized lostMachine c (steps ++ (recovery d ∷ []))) refl
+code-claim l home working sized m c steps d e =
+    let w : World = start m home working l in
+    faithful-last w (recovery c ∷ steps) (recovery d) (whole-list l home working sized m c (steps ++ (recovery d ∷ []))) refl
     (sym (last-answer w (recovery c ∷ steps) (recovery d)) ∙ e)
 
 -- a run answered 0 made every step
@@ -37,10 +36,10 @@ all-made false a b p e f g = absurd (g (sym (ap (λ (q : Report). q .answer) e) 
 -- and of what a run handed back
 pub handed-back : HandedBackClaim
 unfolding runOf
-handed-back l home working sized s answers stores p e ok c steps d list =
-    let w : World = start lostMachine home working l in
+handed-back l home working sized s m answers stores p e ok c steps d list =
+    let w : World = start m home working l in
     let made : p ≡ allMade w (stepsOf s) =
-    all-made (runnable s answers stores) (allMade w (stepsOf s)) (noneMade (freshMemory l home working) answers stores) p e ok (λ z. omega arith) in
+    all-made (runnable s answers stores) (allMade w (stepsOf s)) (noneMade m (freshMemory l home working) answers stores) p e ok (λ z. omega arith) in
     subst (λ (q : Report). lastOf (q .answers) ≡ done → (i : ℕ) → i < length (q .memory .home)
     → getD (q .memory .home) i 0 ≡ ran w (stepsOf s) .book .committed i) (sym made)
-    (subst (λ (xs : List Timed). lastOf (answersOf w xs) ≡ done → HomeCommitted (ran w xs)) (sym list) (code-claim l home working sized c steps d))
+    (subst (λ (xs : List Timed). lastOf (answersOf w xs) ≡ done → HomeCommitted (ran w xs)) (sym list) (code-claim l home working sized m c steps d))

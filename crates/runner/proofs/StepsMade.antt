@@ -10,7 +10,7 @@ use lib.ListN.{length, drop, set, getD}
 use lib.Seq.{append-snoc, drop-cons, drop-length, set-at}
 use Rattle.parts.specs.Listed.{listed}
 use Rattle.parts.proofs.Listed.{length-listed}
-use Rattle.model.specs.Machine.{Machine, Memory, lostMachine}
+use Rattle.model.specs.Machine.{Machine, Memory}
 use Rattle.model.specs.Plan.{Outcome}
 use Rattle.model.specs.Step.{Step, stepped}
 use Rattle.model.specs.Run.{Timed, World, outcome, after, ran, answersOf, storesOf}
@@ -69,10 +69,9 @@ pub record Upto (w : World) (f : ℕ → Timed) (answers₀ stores₀ : List ℕ
   pub stores : ys ≡ storesOf w (listed i f) ++ drop i stores₀
 
 -- at first no step is made
-pub upto-none : (w : World) (f : ℕ → Timed) (answers stores : List ℕ) (m : Machine) → m ≡ w .machine
-    → Upto w f answers stores 0 m (w .memory) answers stores
+pub upto-none : (w : World) (f : ℕ → Timed) (answers stores : List ℕ) → Upto w f answers stores 0 (w .machine) (w .memory) answers stores
 unfolding listed ran answersOf storesOf
-upto-none w f answers stores m e = record { machine = e; memory = refl; answers = refl; stores = refl }
+upto-none w f answers stores = record { machine = refl; memory = refl; answers = refl; stores = refl }
 
 -- the world, the answers and the stores after one step more
 module _ (w : World) (f : ℕ → Timed) (i : ℕ) where
@@ -120,12 +119,12 @@ pub may-run : (s : Script) (answers stores : List ℕ) (t : Bool) → t ≡ runn
 may-run s answers stores t e f = sym e ∙ not-false t f
 
 -- a run that is not refused, and one that is
-module _ (s : Script) (mem : Memory) (answers stores : List ℕ) where
-  pub run-made : (p : Report) → runnable s answers stores ≡ true → p ≡ allMade (atFirst mem) (stepsOf s) → p ≡ runOf s mem answers stores
+module _ (s : Script) (m : Machine) (mem : Memory) (answers stores : List ℕ) where
+  pub run-made : (p : Report) → runnable s answers stores ≡ true → p ≡ allMade (atFirst m mem) (stepsOf s) → p ≡ runOf s m mem answers stores
   unfolding runOf
   run-made p e made = rw e made
 
-  pub run-refused : (m : Machine) (t : Bool) → t ≡ runnable s answers stores → not t ≡ true → m ≡ lostMachine
-      → _≡_ {A = Report} (record { answer = 1; machine = m; memory = mem; answers = answers; stores = stores }) (runOf s mem answers stores)
+  pub run-refused : (t : Bool) → t ≡ runnable s answers stores → not t ≡ true
+      → _≡_ {A = Report} (record { answer = 1; machine = m; memory = mem; answers = answers; stores = stores }) (runOf s m mem answers stores)
   unfolding runOf
-  run-refused m t e f lost = rw (← e, not-true t f, lost)
+  run-refused t e f = rw (← e, not-true t f)

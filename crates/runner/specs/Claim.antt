@@ -3,7 +3,7 @@ use Prim.Native.Nat.{ℕ, _+_, _-_, _*_, _<_}
 use mathlib.Core.Path.{_≡_}
 use mathlib.Core.List.{List, [], _∷_, _++_}
 use lib.ListN.{length, getD, replicate}
-use Rattle.model.specs.Machine.{Memory, lostMachine}
+use Rattle.model.specs.Machine.{Machine, Memory}
 use Rattle.model.specs.Plan.{done, cut}
 use Rattle.model.specs.Step.{recover}
 use Rattle.model.specs.Run.{Timed, start, Sized, HomeCommitted, ran, answersOf}
@@ -25,9 +25,9 @@ lastOf answers = getD answers (length answers - 1) cut
 -- every home word equals the book.
 abbrev pub CodeClaim : Type 0
 CodeClaim =
-    (l : ℕ) (home working : List ℕ) → Sized l home working → (c : ℕ) (steps : List Timed) (d : ℕ)
-    → lastOf (answersOf (start lostMachine home working l) (between c steps d)) ≡ done
-    → HomeCommitted (ran (start lostMachine home working l) (between c steps d))
+    (l : ℕ) (home working : List ℕ) → Sized l home working → (m : Machine) (c : ℕ) (steps : List Timed) (d : ℕ)
+    → lastOf (answersOf (start m home working l) (between c steps d)) ≡ done
+    → HomeCommitted (ran (start m home working l) (between c steps d))
 
 -- the memory at the start: the home words, any working words, and a fresh log of l slots
 abbrev pub freshMemory : ℕ → List ℕ → List ℕ → Memory
@@ -36,8 +36,8 @@ freshMemory l home working = memory home working (replicate (1 + 3 * l) 0)
 -- The same of a run as it was handed back: p is the report of which the contract of `run` speaks.
 abbrev pub HandedBackClaim : Type 0
 HandedBackClaim =
-    (l : ℕ) (home working : List ℕ) → Sized l home working → (s : Script) (answers stores : List ℕ) (p : Report)
-    → p ≡ runOf s (freshMemory l home working) answers stores → p .answer ≡ 0
+    (l : ℕ) (home working : List ℕ) → Sized l home working → (s : Script) (m : Machine) (answers stores : List ℕ) (p : Report)
+    → p ≡ runOf s m (freshMemory l home working) answers stores → p .answer ≡ 0
     → (c : ℕ) (steps : List Timed) (d : ℕ) → stepsOf s ≡ between c steps d → lastOf (p .answers) ≡ done
     → (i : ℕ) → i < length (p .memory .home)
-    → getD (p .memory .home) i 0 ≡ ran (atFirst (freshMemory l home working)) (stepsOf s) .book .committed i
+    → getD (p .memory .home) i 0 ≡ ran (atFirst m (freshMemory l home working)) (stepsOf s) .book .committed i

@@ -6,7 +6,7 @@ use lib.Dec.{eqb, ltb}
 use lib.ListN.{length, getD}
 use Rattle.parts.specs.Listed.{listed}
 use Rattle.model.specs.Lists.{all}
-use Rattle.model.specs.Machine.{Machine, Memory, lostMachine}
+use Rattle.model.specs.Machine.{Machine, Memory}
 use Rattle.model.specs.Step.{Step, begin, store, logUndo, logRedo, evict, writeBack, commit, deleteOldest, recover}
 use Rattle.model.specs.Book.{openedBook}
 use Rattle.model.specs.Run.{Timed, World, ran, answersOf, storesOf}
@@ -71,9 +71,9 @@ abbrev pub reported : Ran → List ℕ → List ℕ → List ℕ → List ℕ �
 reported r home working log answers stores =
     record { answer = r .answer; machine = view (r .state); memory = memory home working log; answers = answers; stores = stores }
 
--- no state has been handed back yet, and the book is opened on the home words
-abbrev pub atFirst : Memory → World
-atFirst mem = record { machine = lostMachine; memory = mem; book = openedBook (mem .home) }
+-- the state that the run goes on from, with a book opened on the home words
+abbrev pub atFirst : Machine → Memory → World
+atFirst m mem = record { machine = m; memory = mem; book = openedBook (mem .home) }
 
 -- every step of a list is made
 abbrev pub allMade : World → List Timed → Report
@@ -87,10 +87,10 @@ allMade w steps =
     }
 
 -- no step is made
-abbrev pub noneMade : Memory → List ℕ → List ℕ → Report
-noneMade mem answers stores =
-    record { answer = 1; machine = lostMachine; memory = mem; answers = answers; stores = stores }
+abbrev pub noneMade : Machine → Memory → List ℕ → List ℕ → Report
+noneMade m mem answers stores =
+    record { answer = 1; machine = m; memory = mem; answers = answers; stores = stores }
 
-unfoldable pub runOf : Script → Memory → List ℕ → List ℕ → Report
-runOf s mem answers stores =
-    cond (runnable s answers stores) (allMade (atFirst mem) (stepsOf s)) (noneMade mem answers stores)
+unfoldable pub runOf : Script → Machine → Memory → List ℕ → List ℕ → Report
+runOf s m mem answers stores =
+    cond (runnable s answers stores) (allMade (atFirst m mem) (stepsOf s)) (noneMade m mem answers stores)

@@ -2,18 +2,18 @@
 ghost use Prim.Native.Nat.{_<_};
 ghost use mathlib.Core.Path.{_≡_};
 ghost use lib.ListN.{length};
+ghost use Rattle.machine.specs.View.{view};
 ghost use Rattle.state.specs.View.{memory};
-ghost use Rattle.steps.specs.Steps.{stepOf};
 ghost use Rattle.runner.specs.Running.{script, numbered, stepAt, knownKinds, runnable, reported, runOf};
 use crate::Ran;
 use machine::State;
+use parts::Step;
 use state::DONE;
 use state::SIZE;
-use steps::Step;
 
 // A step by the number of its kind, from 0 for begin to 8 for recover.
 fn step_of(kind: u64, thread: u64, place: u64, value: u64) -> Step
-    ensures { λ (r : Step). ⌜ stepOf r ≡ numbered kind thread place value ⌝ }
+    ensures { λ (r : Step). ⌜ r ≡ numbered kind thread place value ⌝ }
 {
     match kind {
         0 => Step::Begin { thread },
@@ -35,7 +35,7 @@ fn step_of(kind: u64, thread: u64, place: u64, value: u64) -> Step
 // The i-th step.
 fn step_at(kinds: &[u64], threads: &[u64], places: &[u64], values: &[u64], i: usize) -> Step
     requires { ⌜ (i < length (now kinds)) × ((i < length (now threads)) × ((i < length (now places)) × (i < length (now values)))) ⌝ }
-    ensures { λ (r : Step). ⌜ stepOf r ≡ stepAt (now (kinds .entry)) (now (threads .entry)) (now (places .entry)) (now (values .entry)) i ⌝ }
+    ensures { λ (r : Step). ⌜ r ≡ stepAt (now (kinds .entry)) (now (threads .entry)) (now (places .entry)) (now (values .entry)) i ⌝ }
 {
     step_of(kinds[i], threads[i], places[i], values[i])
 }
@@ -78,9 +78,10 @@ fn is_runnable(
 }
 
 // Kind, thread, word or line, value and supply of each step are lent as slices of numbers; the answer of each and the stores that it
-// made are written to the last two. It starts from the lost state: no state has been handed back yet. Lengths that differ or a kind
+// made are written to the last two. The first step takes `state`, the lost one or one that was handed back. Lengths that differ or a kind
 // above 8 give 1, and nothing is run.
 pub fn run(
+    mut state: State,
     home: &mut [u64],
     working: &mut [u64],
     log: &mut [u64],
@@ -95,11 +96,10 @@ pub fn run(
     ensures { λ (r : Ran). ⌜
         reported r (now (home .exit)) (now (working .exit)) (now (log .exit)) (now (answers .exit)) (now (stores .exit))
         ≡ runOf (script (now (kinds .entry)) (now (threads .entry)) (now (places .entry)) (now (values .entry)) (now (supplies .entry)))
-        (memory (now (home .entry)) (now (working .entry)) (now (log .entry)))
+        (view state) (memory (now (home .entry)) (now (working .entry)) (now (log .entry)))
         (now (answers .entry)) (now (stores .entry))
         ⌝ }
 {
-    let mut state = State::lost();
     if !is_runnable(kinds, threads, places, values, supplies, answers, stores) {
         return Ran {
             answer: SIZE,

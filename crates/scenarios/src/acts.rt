@@ -1,7 +1,7 @@
 // What each command of the table does.
 use crate::bench::Bench;
 use crate::command::Command;
-use steps::Step;
+use parts::Step;
 
 // The verbs: the number that a word's last eight letters make, a byte each. The steps:
 const RECOVER: u64 = 0x72_65_63_6f_76_65_72;

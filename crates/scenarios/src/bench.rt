@@ -3,7 +3,7 @@ use crate::lists::least;
 use crate::lists::same;
 use crate::lists::within;
 use machine::State;
-use steps::Step;
+use parts::Step;
 
 // The room for steps, and for slots that are shown.
 const STEPS: usize = 32;

@@ -13,14 +13,11 @@ abbrev pub view : Fields → Machine
 view s =
     record {
       lost = s .lost;
-      words = s .words;
-      slots = s .slots;
-      head = s .head;
-      tail = s .tail;
+      sizes = record { words = s .words; slots = s .slots };
+      span = record { head = s .head; tail = s .tail };
       opened = s .opened;
       lines = firstLines (s .words / 8) (s .lines);
-      undoRedo = undosWaiting (s .undos);
-      redo = redosWaiting (s .redos);
+      buffers = record { undoRedo = undosWaiting (s .undos); redo = redosWaiting (s .redos) };
     }
 
 -- the three lent buffers

@@ -1,76 +1,57 @@
--- What a step that only appends records hands back.
+-- What a step that only appends records hands back, once it is not refused.
 use Prim.Native.Nat.{ℕ, _+_, _-_, _*_, _≤_, _<_}
-use mathlib.Core.Path.{_≡_, refl, sym, _∙_}
-use mathlib.Core.Bool.{false, _&&_}
-use mathlib.Core.List.{List, [], _∷_, map}
-use native.Mathlib.Nat.{sub-zero}
+use mathlib.Core.Path.{_≡_, sym, _∙_, ap}
+use mathlib.Core.List.{List, map}
 use native.Mathlib.Omega.{arith}
-use borrow.Author.Tests.{ltb-false, lt-ltb}
-use lib.Dec.{ltb}
-use lib.ListN.{length, take, replicate}
+use lib.ListN.{length, take, replicate, length-map}
 use Rattle.log.specs.declared.Record.{Record}
-use Rattle.log.specs.Stores.{Store, stored}
+use Rattle.log.specs.Stores.{Store, storedUnder}
 use Rattle.log.specs.Region.{numbers, slotsOf, recordsStores}
-use Rattle.log.specs.Holding.{Every}
-use Rattle.log.proofs.Stored.{under-none}
 use Rattle.log.proofs.Appending.{size-of-records}
-use Rattle.model.specs.Machine.{Machine, Memory, lostMachine}
-use Rattle.model.specs.Plan.{append, planned}
-use Rattle.model.specs.Refusals.{Row, unless}
-use Rattle.model.specs.Step.{Step, planOf, stepped}
-use Rattle.model.proofs.Performing.{puts-append, partly}
-use Rattle.model.proofs.Outcomes.{outcome-done, outcome-cut}
+use Rattle.model.specs.Machine.{Machine, Memory}
+use Rattle.model.specs.Plan.{inLog, append, putsOf, written}
+use Rattle.model.specs.Refusals.{numberOf}
+use Rattle.model.specs.Step.{Step, firstRows, ownRows, workOf, appended, stepped}
+use Rattle.model.proofs.Performing.{puts-append, written-log}
+use Rattle.model.proofs.Rows.{Room}
 use Rattle.model.proofs.Fit.{Fit}
 use Rattle.logging.proofs.Appending.{Appended}
 use Rattle.state.specs.declared.Made.{Made}
 use Rattle.state.specs.View.{view, shown}
-use Rattle.steps.proofs.Outcome.{outcome-eq}
+use Rattle.steps.proofs.Outcome.{IsCut, done-way, cut-way}
 
--- a step whose records have room gives them numbers below the limit
-pub room : (m : Machine) (records : List Record) → m .tail ≤ numbers
-    → (ltb 0 (length records) && ltb numbers (m .tail + length records)) ≡ false → m .tail + length records ≤ numbers
-room m [] h e = omega arith
-room m (r ∷ records) h e =
-    ltb-false numbers (m .tail + length (r ∷ records)) (rw (lt-ltb 0 (length (r ∷ records)) (omega arith)) at e)
-
--- with no stores to home, it is as it was
-untouched : (c : ℕ) (home : List ℕ) → home ≡ stored home (take c [])
-untouched c home = under-none c home [] refl .1
-
--- What a step hands back that only appends records, once it is not refused: `rows` are its refusals.
-module _ (s : Step) (c : ℕ) (m : Machine) (mem : Memory) (rows : List Row) (records : List Record) (next : Machine) (working : List ℕ)
-    (plan : planOf s m mem ≡ unless rows (planned (map append records) next working)) (none : Every (λ r. r .applies ≡ false) rows)
-    (fits : Fit m mem) (below : m .tail + length records ≤ numbers) where
+module _ (s : Step) (c : ℕ) (m : Machine) (mem : Memory) (zero : numberOf (firstRows s m mem) ≡ 0) (n : ℕ)
+    (number : n ≡ numberOf (ownRows s m mem)) (none : n ≡ 0) (records : List Record) (next : Machine) (working : List ℕ)
+    (work : workOf s m mem ≡ appended records next working) (fits : Fit m mem) (room : Room m (length records)) where
   -- its stores, three for each record
   abbrev stores : List Store
-  stores = recordsStores (slotsOf (mem .log)) (m .tail) records
+  stores = recordsStores (slotsOf (mem .log)) (m .span .tail) records
 
-  size : length stores ≡ 3 * length records
-  size =
-      let e = fits .slots in
-      let h = fits .clauses .fewest in
-      size-of-records (slotsOf (mem .log)) (m .tail) records (omega arith) below
+  three : length stores ≡ 3 * length records
+  three =
+      size-of-records (slotsOf (mem .log)) (m .span .tail) records (omega (arith, fits .slots, fits .clauses .fewest)) (room .numbered (fits .clauses .tail))
+
+  made : putsOf (slotsOf (mem .log)) (m .span .tail) (map append records) ≡ map inLog stores
+  made = puts-append (slotsOf (mem .log)) (m .span .tail) records
+
+  size : length (putsOf (slotsOf (mem .log)) (m .span .tail) (map append records)) ≡ 3 * length records
+  size = rw (made, length-map) three
+
+  -- what the first c of them leave
+  left-by : (log after : List ℕ) → log ≡ storedUnder c (mem .log) stores → record { home = mem .home; working = after; log = log }
+      ≡ written mem (take c (putsOf (slotsOf (mem .log)) (m .span .tail) (map append records))) after
+  left-by log after e = rw (e, made, written-log mem c stores after)
 
   -- done: the supply was enough
-  pub append-done : (r : Made) (log : List ℕ) → 3 * length records ≤ c → Appended c (mem .log) (m .tail) records log (r .left)
+  pub append-done : (r : Made) (log : List ℕ) → 3 * length records ≤ c → Appended c (mem .log) (m .span .tail) records log (r .left)
       → r .answer ≡ 0 → view (r .state) ≡ next → shown r (mem .home) working log ≡ stepped s c m mem
   append-done r log h a answer state =
-      let z = size in
-      let left = a .left in
-      outcome-eq (shown r (mem .home) working log)
-      (record { answer = 0; left = c - (0 + length stores); machine = next; memory = partly mem c [] stores working }) answer (omega arith)
-      state (untouched c (mem .home)) refl (a .log ∙ rw sub-zero)
-      ∙ sym (outcome-done s c m mem rows (map append records) next working plan [] stores none
-      (puts-append (slotsOf (mem .log)) (m .tail) records) (omega arith))
+      done-way s c m mem zero n number none (map append records) next working work r (mem .home) log (rw size h) answer
+      (a .left ∙ ap (λ k. c - k) (three ∙ sym size)) state (left-by log working (a .log))
 
   -- cut: it was not
-  pub append-cut : (r : Made) (after log : List ℕ) (rest : ℕ) → c < 3 * length records → Appended c (mem .log) (m .tail) records log rest
-      → (r .answer ≡ 255) × ((r .left ≡ 0) × (view (r .state) ≡ lostMachine)) → after ≡ replicate (length (mem .working)) 0
-      → shown r (mem .home) after log ≡ stepped s c m mem
-  append-cut r after log rest h a answer cleared =
-      let z = size in
-      outcome-eq (shown r (mem .home) after log)
-      (record { answer = 255; left = 0; machine = lostMachine; memory = partly mem c [] stores (replicate (length (mem .working)) 0) })
-      (answer .0) (answer .1 .0) (answer .1 .1) (untouched c (mem .home)) cleared (a .log ∙ rw sub-zero)
-      ∙ sym (outcome-cut s c m mem rows (map append records) next working plan [] stores none
-      (puts-append (slotsOf (mem .log)) (m .tail) records) (omega arith))
+  pub append-cut : (r : Made) (after log : List ℕ) (rest : ℕ) → c < 3 * length records → Appended c (mem .log) (m .span .tail) records log rest
+      → IsCut r → after ≡ replicate (length (mem .working)) 0 → shown r (mem .home) after log ≡ stepped s c m mem
+  append-cut r after log rest h a answer clear =
+      cut-way s c m mem zero n number none (map append records) next working work r (mem .home) log after (rw size h) answer clear
+      (left-by log (replicate (length (mem .working)) 0) (a .log))

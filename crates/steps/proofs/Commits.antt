@@ -1,50 +1,53 @@
 -- What a commit logs, what it hands back, and the state after it.
-use Prim.Native.Nat.{ℕ, _+_, _-_, _*_, _/_, _%_, _≤_, _<_, min}
-use mathlib.Core.Path.{_≡_, refl, sym, _∙_}
-use mathlib.Core.Bool.{Bool, false, cond, _&&_, not}
-use mathlib.Core.List.{List, _∷_, _++_, map}
+use Prim.Native.Nat.{ℕ, zero, suc, _+_, _-_, _*_, _/_, _%_, _≤_, _<_, min}
+use mathlib.Core.Path.{_≡_, refl, sym, ap, _∙_}
+use mathlib.Core.Bool.{Bool, false, cond, not}
+use mathlib.Core.List.{List, [], _∷_, map, append-assoc}
 use native.Mathlib.Omega.{arith}
 use native.Mathlib.Decide.{decLt}
-use borrow.Author.Tests.{lt-ltb, ltb-false}
-use lib.Dec.{ltb}
-use lib.ListN.{length, getD, set, take, replicate, length-append, length-map}
-use lib.Seq.{take-all, drop-length}
+use borrow.Author.Tests.{lt-ltb, ltb-false, eq-eqb, eqb-true}
+use lib.Dec.{eqb, ltb}
+use lib.ListN.{length, getD, set, replicate, length-append, length-map}
 use Rattle.log.specs.declared.Record.{Record}
+use Rattle.log.specs.declared.Record.the-variants.{Commit}
 use Rattle.log.specs.Stores.{Store, storedUnder}
 use Rattle.log.specs.Region.{numbers, slotsOf, recordsStores}
 use Rattle.log.specs.Holding.{Every}
-use Rattle.log.proofs.Holding.{every-append}
+use Rattle.parts.specs.declared.Line.{Line}
 use Rattle.parts.specs.declared.Lines.{Lines}
 use Rattle.parts.specs.Listed.{listed}
 use Rattle.parts.specs.Lines.{firstLines}
+use Rattle.parts.specs.States.{URLog, ULog}
 use Rattle.parts.specs.Waiting.{undosWaiting}
 use Rattle.parts.proofs.Listed.{length-listed}
 use Rattle.parts.proofs.Waiting.{undoAt, redoAt}
-use Rattle.model.specs.Machine.{Machine, Memory, lostMachine, allLogged}
-use Rattle.model.specs.Plan.{append, planned}
-use Rattle.model.specs.Refusals.{Row, unless, numberOf, common, unknownThread, notOpen, noRoom}
-use Rattle.model.specs.Steps.{newestRedos, commitRecords, released, commitPlan}
-use Rattle.model.specs.Step.{commit, planOf, stepped}
+use Rattle.model.specs.Lists.{upTo}
+use Rattle.model.specs.Machine.{Machine, Memory, lineOf, stateIn, holderIn, changed, marked, wordsMarked, allLogged}
+use Rattle.model.specs.Refusals.{numberOf, common, noRoom}
+use Rattle.model.specs.Steps.{newestWords, newestRedos, prepareRecords, prepareNext, released, commitRecords, commitRows, commitNext}
+use Rattle.model.specs.Step.{commit, stepped}
+use Rattle.model.proofs.Lists.{both-left, every-kept, every-listed}
+use Rattle.model.proofs.Lines.{holder-marked, holder-logged}
+use Rattle.model.proofs.Rows.{None, Room, room}
+use Rattle.model.proofs.Outcomes.{passed-own}
 use Rattle.model.proofs.Fit.{Fit}
-use Rattle.model.proofs.Outcomes.{none-apply, outcome-refused}
-use Rattle.logging.specs.Newest.{linesOf, newestWords}
+use Rattle.logging.specs.Newest.{linesOf}
 use Rattle.logging.specs.Records.{commitRecordsOf}
 use Rattle.logging.proofs.Appending.{Appended}
 use Rattle.logging.proofs.Guards.{commit-of}
 use Rattle.state.specs.declared.Fields.{Fields}
 use Rattle.state.specs.declared.Made.{Made}
 use Rattle.state.specs.View.{view, memory, shown}
-use Rattle.steps.specs.Committing.{HasEntries, HasLog, committedBy}
-use Rattle.steps.proofs.Outcome.{width}
-use Rattle.steps.proofs.Refused.{passed, common-fit, refused-then}
-use Rattle.steps.proofs.Appending.{room, append-done, append-cut}
+use Rattle.steps.specs.Committing.{HasEntries, Allowed}
+use Rattle.steps.proofs.Outcome.{width, common-fit, IsCut}
+use Rattle.steps.proofs.Appending.{append-done, append-cut}
 
 -- the number of records that a commit logs
 pub commit-size : (m : Machine) (mem : Memory) (t : ℕ)
     → length (commitRecords m mem t)
-    ≡ length (m .undoRedo) + (length (m .redo) + (length (newestWords (m .lines) t (m .words)) + 1))
-unfolding commitRecords newestRedos newestWords
-commit-size m mem t = simp (length-append, length-map)
+    ≡ length (m .buffers .undoRedo) + (length (m .buffers .redo) + (length (newestWords (m .lines) t (m .sizes .words)) + 1))
+unfolding commitRecords prepareRecords newestRedos
+commit-size m mem t = simp (length-append, length-map) (omega arith)
 
 -- the same of a state, by what the code counts
 pub commit-count : (us rs w : ℕ) (hs ss : List ℕ) (s : Fields) (mem : Memory) (t r : ℕ) → HasEntries us rs w hs ss s → w ≤ 512 → w % 8 ≡ 0
@@ -65,17 +68,15 @@ commit-count us rs w hs ss s mem t r has most round e =
     )
 
 -- the rows after the common ones, by what the code tests
-pub commit-number : (b : Bool) (l h n t count : ℕ) (m : Machine) (rs : List Record) → HasLog b l h n t m → count ≡ length rs
-    → cond (ltb 7 t) 4 (cond (not b) 6 (cond (ltb (l - (n - h)) count) 10 (cond (ltb 0 count && ltb numbers (n + count)) 11 0)))
-    ≡ numberOf (unknownThread t ∷ notOpen m t ∷ noRoom m rs)
+pub commit-number : (b : Bool) (t k n : ℕ) (m : Machine) (mem : Memory) → getD (m .opened) (t % 8) false ≡ b
+    → n ≡ numberOf (noRoom m mem k) → k ≡ length (commitRecords m mem t) → cond (ltb 7 t) 4 (cond (not b) 6 n) ≡ numberOf (commitRows m mem t)
 unfolding numberOf
-commit-number b l h n t count m rs has e =
+commit-number b t k n m mem opened last e =
     elim (decLt 7 t) [
       | yes p ↦ rw (lt-ltb 7 t p)
       | no q ↦
           let small : t % 8 ≡ t = omega arith in
-          let opened : getD (m .opened) t false ≡ b = rw small at (has .opened) in
-          rw (opened, has .slots, has .head, has .tail, e)
+          rw (← e, last, rw small at opened)
     ]
 
 -- the state after a commit, by what the code sets: the lengths of the buffers, and the lines
@@ -93,14 +94,41 @@ freed s free t count =
       redos = record { len = 0; threads = s .redos .threads; words = s .redos .words; redos = s .redos .redos };
     }
 
-pub commit-next : (s : Fields) (free : Lines) (t count : ℕ)
+-- a line that t holds is released whatever the states of its words
+release-changed : (t : ℕ) (f : Line → Line) (i : ℕ) (ls : List Line) → released t (f (lineOf ls i)) ≡ released t (lineOf ls i)
+    → map (released t) (changed f i ls) ≡ map (released t) ls
+unfolding changed
+release-changed t f i [] e = refl
+release-changed t f zero (l ∷ ls) e = ap (λ (x : Line). x ∷ map (released t) ls) e
+release-changed t f (suc i) (l ∷ ls) e = ap (λ (ls : List Line). released t l ∷ ls) (release-changed t f i ls e)
+
+release-words : (t s : ℕ) (ws : List ℕ) (ls : List Line) → Every (λ w. holderIn ls w ≡ t) ws
+    → map (released t) (wordsMarked s ws ls) ≡ map (released t) ls
+unfolding wordsMarked marked holderIn released
+release-words t s [] ls held = refl
+release-words t s (w ∷ ws) ls held =
+    release-words t s ws (marked s w ls) (simp holder-marked (held .1))
+    ∙ release-changed t _ (w / 8) ls (rw (eq-eqb (lineOf ls (w / 8) .holder) t (held .0)))
+
+-- the words whose newest values are logged are t's
+newest-held : (ls : List Line) (t n : ℕ) → Every (λ w. holderIn ls w ≡ t) (newestWords ls t n)
+unfolding newestWords
+newest-held ls t n =
+    every-kept (λ w. holderIn ls w ≡ t) _ (upTo n)
+    (every-listed _ n (λ w. w) (λ w h e. eqb-true (holderIn ls w) t (both-left (eqb (holderIn ls w) t) (eqb (stateIn ls w) ULog) e)))
+
+-- so the lines after a commit are those whose entries were logged, released
+pub commit-next : (s : Fields) (free : Lines) (mem : Memory) (t count : ℕ) → count ≡ length (commitRecords (view s) mem t)
     → firstLines (s .words / 8) free ≡ map (released t) (allLogged (undosWaiting (s .undos)) (firstLines (s .words / 8) (s .lines)))
-    → view (freed s free t count) ≡ committedBy t count (view s)
-unfolding committedBy listed
-commit-next s free t count lines =
-    let all : take (length (undosWaiting (s .undos))) (undosWaiting (s .undos)) ≡ undosWaiting (s .undos) =
-    take-all (length (undosWaiting (s .undos))) (undosWaiting (s .undos)) (omega arith) in
-    rw (all, drop-length, lines)
+    → view (freed s free t count) ≡ commitNext (view s) mem t
+unfolding prepareNext commitRecords listed
+commit-next s free mem t count e lines =
+    let size : count ≡ length (prepareRecords (view s) mem t) + 1 = e ∙ length-append (prepareRecords (view s) mem t) (Commit t ∷ []) in
+    let tail : s .tail + count ≡ s .tail + length (prepareRecords (view s) mem t) + 1 = omega arith in
+    let ls : List Line = allLogged (undosWaiting (s .undos)) (firstLines (s .words / 8) (s .lines)) in
+    let held : Every (λ w. holderIn ls w ≡ t) (newestWords (view s .lines) t (s .words)) =
+    simp holder-logged (newest-held (view s .lines) t (s .words)) in
+    rw (tail, lines, ← release-words t URLog (newestWords (view s .lines) t (s .words)) ls held)
 
 -- the sizes of a state that no common row refuses
 pub record Sizes (s : Fields) : Type 0 where
@@ -112,9 +140,9 @@ pub record Sizes (s : Fields) : Type 0 where
   pub span : s .tail ≤ s .head + s .slots
   pub tail : s .tail ≤ numbers
 
-sizes : (s : Fields) (mem : Memory) → Fit (view s) mem → Sizes s
-sizes s mem fits =
-    let all = fits .clauses in
+pub sizes : (s : Fields) (mem : Memory) → numberOf (common (view s) mem) ≡ 0 → Sizes s
+sizes s mem sound =
+    let all = common-fit (view s) mem sound .clauses in
     let wide = width (s .words) (all .width) in
     let undos = all .undoSize in
     let redos = all .redoSize in
@@ -128,91 +156,52 @@ sizes s mem fits =
       tail = all .tail;
     }
 
--- What a commit hands back.
-module _ (s : Fields) (t c : ℕ) (home working log : List ℕ) where
+-- What a commit hands back, once it is not refused.
+module _ (s : Fields) (t c : ℕ) (home working log : List ℕ) (count : ℕ) (allowed : Allowed t count (view s) (memory home working log)) where
   abbrev mem : Memory
   mem = memory home working log
 
   abbrev records : List Record
   records = commitRecords (view s) mem t
 
-  -- the rows after the common ones
-  abbrev rest : List Row
-  rest = unknownThread t ∷ notOpen (view s) t ∷ noRoom (view s) records
+  fits : Fit (view s) mem
+  fits = common-fit (view s) mem (allowed .common)
 
-  abbrev rows : List Row
-  rows = common (view s) mem ++ rest
+  none : None (commitRows (view s) mem t)
+  none = passed-own (commit t) c (view s) mem (allowed .common) 0 (sym (allowed .own)) refl
 
-  abbrev next : Machine
-  next = committedBy t (length records) (view s)
+  pub commit-room : Room (view s) (length records)
+  commit-room = room (view s) mem (length records) (none .1 .1)
 
-  plan : planOf (commit t) (view s) mem ≡ unless rows (planned (map append records) next working)
-  unfolding planOf commitPlan committedBy
-  plan = refl
-
-  module _ (zero : numberOf (common (view s) mem) ≡ 0) where
-    -- refused by a row of its own
-    pub commit-refused : (n : ℕ) → n ≡ numberOf rest → (n ≡ 0 → ⊥)
-        → record { answer = n; left = c; machine = view s; memory = mem } ≡ stepped (commit t) c (view s) mem
-    commit-refused n e some =
-        sym (outcome-refused (commit t) c (view s) mem rows (map append records) next working plan n
-        (sym (e ∙ refused-then (view s) mem zero rest)) some refl)
-
-    -- by none of the common ones
-    pub sized : Sizes s
-    sized = sizes s mem (common-fit (view s) mem zero)
-
-  -- by none
-  pub record Ready : Type 0 where
-    pub fits : Fit (view s) mem
-    pub none : Every (λ r. r .applies ≡ false) rows
-    pub thread : t < 8
-    pub below : s .tail + length records ≤ numbers
-
-  pub ready : numberOf (common (view s) mem) ≡ 0 → (n : ℕ) → n ≡ numberOf rest → n ≡ 0 → Ready
-  ready zero n e none =
-      let early = passed (view s) mem zero in
-      let later : Every (λ r. r .applies ≡ false) rest =
-      none-apply rest (omega arith, (omega arith, (omega arith, (omega arith, tt)))) (sym e ∙ none) in
-      let fits = common-fit (view s) mem zero in
-      record {
-        fits = fits;
-        none = every-append (λ (r : Row). r .applies ≡ false) (common (view s) mem) rest early later;
-        thread = omega (arith, ltb-false 7 t (later .0));
-        below = room (view s) records (fits .clauses .tail) (later .1 .1 .1 .0);
-      }
+  pub known-thread : t < 8
+  known-thread = omega (arith, ltb-false 7 t (none .0))
 
   -- the records that were appended are those of the model
-  same-records : Ready → commitRecordsOf (s .undos) (s .redos) (s .lines) working t ≡ records
-  unfolding commitRecords newestRedos newestWords
-  same-records is-ready =
-      let size = sizes s mem (is-ready .fits) in
-      let e : length working ≡ s .words = is-ready .fits .working in
+  same-records : commitRecordsOf (s .undos) (s .redos) (s .lines) working t ≡ records
+  unfolding commitRecords prepareRecords newestRedos
+  same-records =
+      let size = sizes s mem (allowed .common) in
+      let e : length working ≡ s .words = fits .working in
       commit-of (s .undos) (s .redos) (s .lines) working t
-      (record { fewUndos = omega arith; fewRedos = omega arith; most = omega arith; round = rw e (size .round) })
-      ∙ rw e
+      (record { fewUndos = size .undos; fewRedos = size .redos; most = omega (arith, size .words); round = rw e (size .round) })
+      ∙ (rw e (simp append-assoc))
 
   -- their stores
   abbrev pub commitStores : List Store
   commitStores = recordsStores (slotsOf log) (s .tail) (commitRecordsOf (s .undos) (s .redos) (s .lines) working t)
 
-  made : Ready → (after : List ℕ) (left : ℕ) → (left ≡ c - length commitStores) × (after ≡ storedUnder c log commitStores)
-      → Appended c log (s .tail) records after left
-  made is-ready after left e = let f = rw (same-records is-ready) at e in record { left = f .0; log = f .1 }
+  module _ (after : List ℕ) (left : ℕ) (made : (left ≡ c - length commitStores) × (after ≡ storedUnder c log commitStores)) where
+    appended : Appended c log (s .tail) records after left
+    appended = let f = rw same-records at made in record { left = f .0; log = f .1 }
 
-  -- done, and cut
-  module _ (is-ready : Ready) (count : ℕ) (same : count ≡ length records) where
-    pub commit-done : (r : Fields) (after : List ℕ) (left : ℕ) → 3 * count ≤ c
-        → (left ≡ c - length commitStores) × (after ≡ storedUnder c log commitStores) → view r ≡ committedBy t count (view s)
+    pub commit-done : (r : Fields) → 3 * count ≤ c → view r ≡ commitNext (view s) mem t
         → shown (record { answer = 0; left = left; state = r }) home working after ≡ stepped (commit t) c (view s) mem
-    commit-done r after left h a e =
-        append-done (commit t) c (view s) mem rows records next working plan (is-ready .none) (is-ready .fits) (is-ready .below)
-        (record { answer = 0; left = left; state = r }) after (rw same at h) (made is-ready after left a) refl (rw same at e)
+    commit-done r h =
+        append-done (commit t) c (view s) mem (allowed .common) 0 (sym (allowed .own)) refl records (commitNext (view s) mem t) working refl fits commit-room
+        (record { answer = 0; left = left; state = r }) after (omega (arith, allowed .records)) appended refl
 
-    pub commit-cut : (r : Made) (cleared after : List ℕ) (left : ℕ) → c < 3 * count
-        → (left ≡ c - length commitStores) × (after ≡ storedUnder c log commitStores)
-        → (r .answer ≡ 255) × ((r .left ≡ 0) × (view (r .state) ≡ lostMachine)) → cleared ≡ replicate (length working) 0
-        → shown r home cleared after ≡ stepped (commit t) c (view s) mem
-    commit-cut r cleared after left h a e f =
-        append-cut (commit t) c (view s) mem rows records next working plan (is-ready .none) (is-ready .fits) (is-ready .below)
-        r cleared after left (rw same at h) (made is-ready after left a) e f
+    pub commit-cut : (r : Made) (clear : List ℕ) → c < 3 * count → IsCut r → clear ≡ replicate (length working) 0
+        → shown r home clear after ≡ stepped (commit t) c (view s) mem
+    commit-cut r clear h =
+        append-cut (commit t) c (view s) mem (allowed .common) 0 (sym (allowed .own)) refl records (commitNext (view s) mem t) working refl fits commit-room
+        r clear after left (omega (arith, allowed .records)) appended

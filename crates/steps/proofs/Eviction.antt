@@ -1,15 +1,12 @@
 -- A line evicted: the entries that its ULog words add, how many must be logged before, and the state after it.
 use Prim.Native.Nat.{ℕ, _+_, _-_, _*_, _/_, _%_, _≤_, _<_}
 use mathlib.Core.Path.{_≡_, refl, sym, ap, ap₂, subst, _∙_}
-use mathlib.Core.Bool.{true, false, cond, _&&_}
+use mathlib.Core.Bool.{true, cond}
 use mathlib.Core.List.{List, [], _++_, map, map-map, append-nil}
 use native.Mathlib.Omega.{arith}
 use borrow.Author.Tests.{lt-ltb}
 use lib.Dec.{ltb}
 use lib.ListN.{length, getD, set, drop, replicate, length-map}
-use Rattle.log.specs.declared.Record.{Record}
-use Rattle.log.specs.Region.{numbers}
-use Rattle.log.specs.Holding.{Every}
 use Rattle.parts.specs.declared.Entry.{Entry}
 use Rattle.parts.specs.declared.RedoBuffer.{RedoBuffer}
 use Rattle.parts.specs.declared.Line.{Line}
@@ -23,13 +20,13 @@ use Rattle.parts.proofs.Listed.{length-listed}
 use Rattle.parts.proofs.Oldest.{length-oldest}
 use Rattle.parts.proofs.FirstLines.{WholeLines}
 use Rattle.model.specs.Lists.{keep}
-use Rattle.model.specs.Machine.{Machine, Memory, lostMachine, freeSlots, withTail, withLines, withRedo, lineOf, statesAs, changed}
-use Rattle.model.specs.Plan.{append, planned}
-use Rattle.model.specs.Refusals.{Row, unless, numberOf, common, noRoom}
-use Rattle.model.specs.Steps.{evicted, lacking, redoRecord, redoRecords, redosLogged, evictPlan}
-use Rattle.model.specs.Step.{evict, planOf, stepped}
+use Rattle.model.specs.Machine.{Machine, Memory, withTail, withLines, withRedo, lineOf, statesAs, changed}
+use Rattle.model.specs.Refusals.{numberOf, common, noRoom}
+use Rattle.model.specs.Steps.{evicted, lacking, redoRecord, redoRecords, redosLogged, evictRecords, evictRows, evictNext}
+use Rattle.model.specs.Step.{evict, stepped}
 use Rattle.model.proofs.LinesInUse.{line-in-use, first-changed}
-use Rattle.model.proofs.Outcomes.{outcome-refused}
+use Rattle.model.proofs.Outcomes.{passed-own}
+use Rattle.model.proofs.Rows.{Room, room}
 use Rattle.line_walks.specs.Walks.{ulogWords, refilled, wordsIn, valuesIn}
 use Rattle.line_walks.proofs.Refilled.{ulogEntry, entries-refilled}
 use Rattle.line_walks.proofs.WordStates.{withStates, state-put}
@@ -38,8 +35,9 @@ use Rattle.logging.proofs.Appending.{Appended}
 use Rattle.state.specs.declared.Fields.{Fields}
 use Rattle.state.specs.declared.Made.{Made}
 use Rattle.state.specs.View.{view, shown}
-use Rattle.steps.proofs.Appending.{room, append-done, append-cut}
-use Rattle.steps.proofs.LineRows.{lineRows, none-refuse, LineFit, line-fit, common-narrow, lineNumber, line-number}
+use Rattle.steps.proofs.Outcome.{common-narrow, IsCut}
+use Rattle.steps.proofs.Appending.{append-done, append-cut}
+use Rattle.steps.proofs.LineRows.{LineFit, line-fit, lineNumber, line-number}
 
 -- no word is ULog where all are Clean
 clean-keep : ulogWords 0 ≡ []
@@ -134,10 +132,10 @@ module _ (s : Fields) (i : ℕ) (below : i < s .words / 8) where
     set-down : (grown : RedoBuffer) (ss : List ℕ) → s .words ≤ 512 → WholeLines (s .lines)
         → redosWaiting grown ≡ drop count (redosWaiting (s .redos)) ++ evicted (view s) mem i → ss ≡ set (s .lines .states) i 0
         → view (setDown s count grown ss)
-        ≡ withLines (changed (statesAs 0) i (view s .lines)) (withRedo (drop count (view s .redo) ++ evicted (view s) mem i) (redosLogged count (view s)))
+        ≡ withLines (changed (statesAs 0) i (view s .lines)) (withRedo (drop count (view s .buffers .redo) ++ evicted (view s) mem i) (redosLogged count (view s)))
     set-down grown ss narrow whole more clean =
         let lines : List Line = changed (statesAs 0) i (view s .lines) in
-        let redos : List Entry = drop count (view s .redo) ++ evicted (view s) mem i in
+        let redos : List Entry = drop count (view s .buffers .redo) ++ evicted (view s) mem i in
         ap₂ (λ (ls : List Line) (es : List Entry). withTail (s .tail + count) (withLines ls (withRedo es (view s))))
         (states-lines (s .words / 8) (s .lines) i 0 ss whole (omega arith) clean) more
         ∙ ap (λ (k : ℕ). withTail (s .tail + k) (withLines lines (withRedo redos (view s))))
@@ -147,76 +145,52 @@ module _ (s : Fields) (i : ℕ) (below : i < s .words / 8) where
 pub few-wait : (b : RedoBuffer) → length (redosWaiting b) ≤ 32 → b .len ≤ 32
 few-wait b h = rw length-listed at h
 
-module _ (i c : ℕ) (s : Fields) (mem : Memory) where
-  abbrev records : List Record
-  records = redoRecords (lacking (view s) mem i) (view s)
-
-  abbrev pub rows : List Row
-  rows = lineRows (view s) mem i (noRoom (view s) records)
-
-  -- the state after the eviction, for which k redo entries were logged
-  abbrev next : ℕ → Machine
-  next k =
-      withLines (changed (statesAs 0) i (view s .lines)) (withRedo (drop k (view s .redo) ++ evicted (view s) mem i) (redosLogged k (view s)))
-
-  plan : planOf (evict i) (view s) mem ≡ unless rows (planned (map append records) (next (lacking (view s) mem i)) (mem .working))
-  unfolding planOf evictPlan
-  plan = refl
-
+module _ (i : ℕ) (s : Fields) (mem : Memory) where
   -- there are as many records as entries lack places
-  size : (count : ℕ) → count ≡ lacking (view s) mem i → count ≤ s .redos .len → length records ≡ count
+  size : (count : ℕ) → count ≡ lacking (view s) mem i → count ≤ s .redos .len → length (evictRecords (view s) mem i) ≡ count
   size count e h = rw (← e) (length-oldest redoRecord count (s .redos .len) (redoAt (s .redos)) h)
 
   -- the number of the rows, by the code: the line's, then those of the records
   pub evict-number : (count room n : ℕ) → numberOf (common (view s) mem) ≡ 0 → count ≡ lackingIn (s .redos .len) (s .lines .states) i
-      → count ≤ s .redos .len → room ≡ cond (ltb (freeSlots (view s)) count) 10 (cond (ltb 0 count && ltb numbers (s .tail + count)) 11 0)
-      → n ≡ lineNumber (s .words) (s .lines .states) i room → n ≡ numberOf rows
-  unfolding numberOf
+      → count ≤ s .redos .len → room ≡ numberOf (noRoom (view s) mem count) → n ≡ lineNumber (s .words) (s .lines .states) i room
+      → n ≡ numberOf (evictRows (view s) mem i)
   evict-number count room n none counted within last e =
-      line-number s mem i room n (noRoom (view s) records) none
-      (λ below.
-      last
-      ∙ ap (λ (k : ℕ). cond (ltb (freeSlots (view s)) k) 10 (cond (ltb 0 k && ltb numbers (s .tail + k)) 11 0))
-      (sym (size count (lacking-by s i below mem count (common-narrow (view s) mem none) counted) within)))
+      let narrow = common-narrow (view s) mem none in
+      line-number s i room n (noRoom (view s) mem (length (evictRecords (view s) mem i))) narrow
+      (λ below. rw (size count (lacking-by s i below mem count narrow counted) within) last)
       e
 
-  -- refused: all is as it was
-  pub evict-refused : (n : ℕ) → n ≡ numberOf rows → (n ≡ 0 → ⊥)
-      → shown (record { answer = n; left = c; state = s }) (mem .home) (mem .working) (mem .log) ≡ stepped (evict i) c (view s) mem
-  evict-refused n e some =
-      sym (outcome-refused (evict i) c (view s) mem rows (map append records) (next (lacking (view s) mem i)) (mem .working) plan n (sym e) some refl)
-
-  module _ (n : ℕ) (e : n ≡ numberOf rows) (z : n ≡ 0) where
-    none : Every (λ r. r .applies ≡ false) rows
-    none = none-refuse (view s) mem i (noRoom (view s) records) (omega arith, (omega arith, tt)) (sym e ∙ z)
-
-    -- what is known where it is not refused
+  module _ (c n : ℕ) (zero : numberOf (common (view s) mem) ≡ 0) (number : n ≡ numberOf (evictRows (view s) mem i)) (none : n ≡ 0) where
     pub evict-fit : LineFit (view s) mem i
-    evict-fit = line-fit (view s) mem i (noRoom (view s) records) none
+    evict-fit = line-fit (view s) mem i (noRoom (view s) mem (length (evictRecords (view s) mem i))) zero (passed-own (evict i) c (view s) mem zero n number none)
 
-    room-for : s .tail + length records ≤ numbers
-    room-for = room (view s) records (evict-fit .fits .clauses .tail) (none .1 .1 .1 .1 .1 .1 .0)
+    pub evict-room : Room (view s) (length (evictRecords (view s) mem i))
+    evict-room = room (view s) mem _ (passed-own (evict i) c (view s) mem zero n number none .1 .1)
 
-    module _ (count : ℕ) (lacks : count ≡ lacking (view s) mem i) (within : count ≤ s .redos .len) where
-      module _ (log : List ℕ) (rest : ℕ) (made : Appended c (mem .log) (s .tail) (redoRecords count (view s)) log rest) where
-        appended : Appended c (mem .log) (s .tail) records log rest
-        appended = subst (λ (k : ℕ). Appended c (mem .log) (s .tail) (redoRecords k (view s)) log rest) lacks made
+    module _ (count : ℕ) (lacks : count ≡ lacking (view s) mem i) (within : count ≤ s .redos .len) (log : List ℕ) (rest : ℕ)
+        (made : Appended c (mem .log) (s .tail) (redoRecords count (view s)) log rest) where
+      appended : Appended c (mem .log) (s .tail) (evictRecords (view s) mem i) log rest
+      appended = subst (λ (k : ℕ). Appended c (mem .log) (s .tail) (redoRecords k (view s)) log rest) lacks made
 
-        -- done: the supply was enough
-        pub evict-done : 3 * count ≤ c → WholeLines (s .lines) → (grown : RedoBuffer) (ss : List ℕ)
-            → redosWaiting grown ≡ drop count (redosWaiting (s .redos)) ++ evicted (view s) mem i → ss ≡ set (s .lines .states) i 0
-            → shown (record { answer = 0; left = rest; state = setDown s count grown ss }) (mem .home) (mem .working) log
-            ≡ stepped (evict i) c (view s) mem
-        evict-done h whole grown ss more clean =
-            let l = size count lacks within in
-            let state = set-down s i (evict-fit .below) mem count lacks within grown ss (evict-fit .narrow) whole more clean in
-            append-done (evict i) c (view s) mem rows records (next (lacking (view s) mem i)) (mem .working) plan none (evict-fit .fits) room-for
-            (record { answer = 0; left = rest; state = setDown s count grown ss }) log (omega arith) appended refl (state ∙ ap next lacks)
+      -- done: the supply was enough
+      pub evict-done : 3 * count ≤ c → WholeLines (s .lines) → (grown : RedoBuffer) (ss : List ℕ)
+          → redosWaiting grown ≡ drop count (redosWaiting (s .redos)) ++ evicted (view s) mem i → ss ≡ set (s .lines .states) i 0
+          → shown (record { answer = 0; left = rest; state = setDown s count grown ss }) (mem .home) (mem .working) log
+          ≡ stepped (evict i) c (view s) mem
+      evict-done h whole grown ss more clean =
+          append-done (evict i) c (view s) mem zero n number none (evictRecords (view s) mem i) (evictNext (view s) mem i) (mem .working) refl
+          (evict-fit .fits) evict-room (record { answer = 0; left = rest; state = setDown s count grown ss }) log
+          (omega (arith, size count lacks within)) appended refl
+          (set-down s i (evict-fit .below) mem count lacks within grown ss (evict-fit .narrow) whole more clean ∙ ap next lacks)
+        where
+          next : ℕ → Machine
+          next k =
+              withLines (changed (statesAs 0) i (view s .lines))
+              (withRedo (drop k (redosWaiting (s .redos)) ++ evicted (view s) mem i) (redosLogged k (view s)))
 
-        -- cut: it was not
-        pub evict-cut : (r : Made) (after : List ℕ) → c < 3 * count → (r .answer ≡ 255) × ((r .left ≡ 0) × (view (r .state) ≡ lostMachine))
-            → after ≡ replicate (length (mem .working)) 0 → shown r (mem .home) after log ≡ stepped (evict i) c (view s) mem
-        evict-cut r after h answer cleared =
-            let l = size count lacks within in
-            append-cut (evict i) c (view s) mem rows records (next (lacking (view s) mem i)) (mem .working) plan none (evict-fit .fits) room-for
-            r after log rest (omega arith) appended answer cleared
+      -- cut: it was not
+      pub evict-cut : (r : Made) (after : List ℕ) → c < 3 * count → IsCut r → after ≡ replicate (length (mem .working)) 0
+          → shown r (mem .home) after log ≡ stepped (evict i) c (view s) mem
+      evict-cut r after h =
+          append-cut (evict i) c (view s) mem zero n number none (evictRecords (view s) mem i) (evictNext (view s) mem i) (mem .working) refl
+          (evict-fit .fits) evict-room r after log rest (omega (arith, size count lacks within)) appended

@@ -31,7 +31,7 @@ use Rattle.state.specs.View.{view}
 use Rattle.steps.proofs.LoggingOldest.{WholeUndos, WholeRedos}
 
 -- how many entries are logged first, by the code's test
-pub logs-by : (m : Machine) (w : ℕ) (same t : Bool) (k n : ℕ) → k ≡ stateIn (m .lines) w → n ≡ length (m .undoRedo)
+pub logs-by : (m : Machine) (w : ℕ) (same t : Bool) (k n : ℕ) → k ≡ stateIn (m .lines) w → n ≡ length (m .buffers .undoRedo)
     → (not same && (eqb k 0 && leb 16 n)) ≡ t → cond t 1 0 ≡ storeLogs m w same
 unfolding storeLogs
 logs-by m w same t k n a b e = rw (← e, a, b)
@@ -41,7 +41,7 @@ pub logs-full : (same : Bool) (k n : ℕ) → (not same && (eqb k 0 && leb 16 n)
 logs-full same k n e = leb-true 16 n (both-right (eqb k 0) (leb 16 n) (both-right (not same) (eqb k 0 && leb 16 n) e))
 
 -- it is one at most, and no more than wait
-pub logs-most : (m : Machine) (w : ℕ) (same : Bool) → (storeLogs m w same ≤ 1) × (storeLogs m w same ≤ length (m .undoRedo))
+pub logs-most : (m : Machine) (w : ℕ) (same : Bool) → (storeLogs m w same ≤ 1) × (storeLogs m w same ≤ length (m .buffers .undoRedo))
 unfolding storeLogs
 logs-most m w same = pick (not same && (clean && full)) refl
   where
@@ -49,29 +49,29 @@ logs-most m w same = pick (not same && (clean && full)) refl
     clean = eqb (stateIn (m .lines) w) Clean
 
     full : Bool
-    full = leb 16 (length (m .undoRedo))
+    full = leb 16 (length (m .buffers .undoRedo))
 
-    pick : (t : Bool) → (not same && (clean && full)) ≡ t → (cond t 1 0 ≤ 1) × (cond t 1 0 ≤ length (m .undoRedo))
+    pick : (t : Bool) → (not same && (clean && full)) ≡ t → (cond t 1 0 ≤ 1) × (cond t 1 0 ≤ length (m .buffers .undoRedo))
     pick true e =
-        let h = leb-true 16 (length (m .undoRedo)) (both-right clean full (both-right (not same) (clean && full) e)) in
+        let h = leb-true 16 (length (m .buffers .undoRedo)) (both-right clean full (both-right (not same) (clean && full) e)) in
         (omega arith, omega arith)
     pick false e = (omega arith, omega arith)
 
 -- where another value comes to a Clean word and at most 16 entries wait, fewer than 16 remain once those are logged that come first
 pub logs-room : (m : Machine) (w : ℕ) (same : Bool) (k n : ℕ) → same ≡ false → k ≡ stateIn (m .lines) w → k ≡ 0 → n ≡ storeLogs m w same
-    → length (m .undoRedo) ≤ 16 → length (m .undoRedo) - n < 16
+    → length (m .buffers .undoRedo) ≤ 16 → length (m .buffers .undoRedo) - n < 16
 unfolding storeLogs
-logs-room m w same k n e kind clean count most = pick (leb 16 (length (m .undoRedo))) refl
+logs-room m w same k n e kind clean count most = pick (leb 16 (length (m .buffers .undoRedo))) refl
   where
-    counted : n ≡ cond (leb 16 (length (m .undoRedo))) 1 0
+    counted : n ≡ cond (leb 16 (length (m .buffers .undoRedo))) 1 0
     counted = count ∙ rw (e, ← kind, clean)
 
-    pick : (t : Bool) → leb 16 (length (m .undoRedo)) ≡ t → length (m .undoRedo) - n < 16
+    pick : (t : Bool) → leb 16 (length (m .buffers .undoRedo)) ≡ t → length (m .buffers .undoRedo) - n < 16
     pick true full =
         let one : n ≡ 1 = counted ∙ ap (λ (t : Bool). cond t 1 0) full in
         omega arith
     pick false full =
-        let h = leb-false 16 (length (m .undoRedo)) full in
+        let h = leb-false 16 (length (m .buffers .undoRedo)) full in
         omega arith
 
 -- as many entries wait as a buffer's length says
@@ -84,17 +84,17 @@ redos-length b = length-listed (b .len) (redoAt b)
 -- where no entry is logged, nothing changes
 pub none-logged : (m : Machine) (k : ℕ) → k ≡ 0 → m ≡ undosLogged k m
 unfolding allLogged
-none-logged m k e = rw e (let h : m .tail ≡ m .tail + 0 = omega arith in ap (λ (n : ℕ). withTail n m) h)
+none-logged m k e = rw e (let h : m .span .tail ≡ m .span .tail + 0 = omega arith in ap (λ (n : ℕ). withTail n m) h)
 
 -- what is filed by the word's state: a first entry, another redo, another state, or nothing
 module _ (m : Machine) (e : Entry) (k : ℕ) where
   pub filed-clean : (ls : List Line) (us ds : List Entry) → k ≡ 0 → ls ≡ marked Dirty (e .word) (m .lines)
-      → us ≡ m .undoRedo ++ (e ∷ []) → ds ≡ discarded (e .word) (m .redo)
+      → us ≡ m .buffers .undoRedo ++ (e ∷ []) → ds ≡ discarded (e .word) (m .buffers .redo)
       → withLines ls (withRedo ds (withUndoRedo us m)) ≡ storedAs k (e .thread) (e .word) (e .undo) (e .redo) m
   unfolding storedAs
   filed-clean ls us ds k=0 a b d = rw (k=0, a, b, d)
 
-  pub filed-dirty : (us : List Entry) → k ≡ 1 → us ≡ amended (e .word) (e .redo) (m .undoRedo)
+  pub filed-dirty : (us : List Entry) → k ≡ 1 → us ≡ amended (e .word) (e .redo) (m .buffers .undoRedo)
       → withUndoRedo us m ≡ storedAs k (e .thread) (e .word) (e .undo) (e .redo) m
   unfolding storedAs
   filed-dirty us k=1 a = rw (k=1, a)

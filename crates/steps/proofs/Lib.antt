@@ -1,10 +1,8 @@
 -- Laws that the proofs of the functions share.
+pub mod Outcome
 pub mod Appending
-pub mod Refused
-pub mod Early
 pub mod LoggingOldest
 pub mod DeleteStep
-pub mod Outcome
 pub mod LineWords
 pub mod LineRows
 pub mod WritingBack

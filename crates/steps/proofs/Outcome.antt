@@ -1,13 +1,23 @@
--- What the code of a step hands back, part by part.
-use Prim.Native.Nat.{ℕ, _%_, _≤_}
-use mathlib.Core.Path.{_≡_}
+-- What the code of a step hands back: refused, done or cut, by the model's three ways out.
+use Prim.Native.Nat.{ℕ, _-_, _%_, _≤_, _<_}
+use mathlib.Core.Path.{_≡_, sym, _∙_, ap}
 use mathlib.Core.Bool.{true, _&&_}
+use mathlib.Core.List.{List}
 use borrow.Author.Tests.{leb-true, eqb-true}
 use lib.Dec.{leb, eqb}
+use lib.ListN.{length, take, replicate}
+use lib.Seq.{take-all}
+use Rattle.model.specs.Machine.{Machine, Memory, lostMachine}
 use Rattle.model.specs.Consistent.{isWidth}
+use Rattle.model.specs.Plan.{Op, Put, planned, Outcome, written}
+use Rattle.model.specs.Refusals.{numberOf, common}
+use Rattle.model.specs.Step.{Step, logUndo, firstRows, ownRows, workOf, stepped}
 use Rattle.model.proofs.Lists.{both-left, both-right}
--- two outcomes are equal, if their parts are
-pub use Rattle.model.proofs.Outcomes.{outcome-eq}
+use Rattle.model.proofs.Rows.{none-apply, first-positive}
+use Rattle.model.proofs.Outcomes.{puts, way-done, way-cut}
+use Rattle.model.proofs.Fit.{Fit, fit}
+use Rattle.state.specs.declared.Made.{Made}
+use Rattle.state.specs.View.{view, shown}
 
 -- a width is a multiple of 8 from 8 to 512
 pub record Width (n : ℕ) : Type 0 where
@@ -23,3 +33,42 @@ width n e =
       most = leb-true n 512 (both-left (leb n 512) (eqb (n % 8) 0) rest);
       whole = eqb-true (n % 8) 0 (both-right (leb n 512) (eqb (n % 8) 0) rest);
     }
+
+-- what is known where no common row applies
+module _ (m : Machine) (mem : Memory) (zero : numberOf (common m mem) ≡ 0) where
+  pub common-fit : Fit m mem
+  common-fit = fit m mem (none-apply (common m mem) (first-positive logUndo m mem) zero)
+
+  pub common-narrow : m .sizes .words ≤ 512
+  common-narrow = width (m .sizes .words) (common-fit .clauses .width) .most
+
+-- what a cut hands back
+abbrev pub IsCut : Made → Type 0
+IsCut r = (r .answer ≡ 255) × ((r .left ≡ 0) × (view (r .state) ≡ lostMachine))
+
+-- two outcomes are equal, if their parts are
+outcome-eq : (o p : Outcome) → o .answer ≡ p .answer → o .left ≡ p .left → o .machine ≡ p .machine → o .memory ≡ p .memory → o ≡ p
+outcome-eq o p a l m e = λ i. record { answer = a i; left = l i; machine = m i; memory = e i }
+
+-- A step that no row refuses, its stores being those of ops: what is handed back is what the first c of them leave.
+module _ (s : Step) (c : ℕ) (m : Machine) (mem : Memory) (zero : numberOf (firstRows s m mem) ≡ 0) (n : ℕ)
+    (number : n ≡ numberOf (ownRows s m mem)) (none : n ≡ 0) (ops : List Op) (next : Machine) (working : List ℕ)
+    (work : workOf s m mem ≡ planned 0 ops next working) (r : Made) (home log : List ℕ) where
+  abbrev pub made : List Put
+  made = puts s c m mem zero n number none ops next working work
+
+  pub done-way : length made ≤ c → r .answer ≡ 0 → r .left ≡ c - length made → view (r .state) ≡ next
+      → record { home = home; working = working; log = log } ≡ written mem (take c made) working → shown r home working log ≡ stepped s c m mem
+  done-way h answer left state memory =
+      outcome-eq (shown r home working log) (record { answer = 0; left = c - length made; machine = next; memory = written mem made working })
+      answer left state (memory ∙ ap (λ ps. written mem ps working) (take-all c made h))
+      ∙ sym (way-done s c m mem zero n number none ops next working work h)
+
+  pub cut-way : (after : List ℕ) → c < length made → IsCut r → after ≡ replicate (length (mem .working)) 0
+      → record { home = home; working = replicate (length (mem .working)) 0; log = log } ≡ written mem (take c made) (replicate (length (mem .working)) 0)
+      → shown r home after log ≡ stepped s c m mem
+  cut-way after h answer clear memory =
+      outcome-eq (shown r home after log)
+      (record { answer = 255; left = 0; machine = lostMachine; memory = written mem (take c made) (replicate (length (mem .working)) 0) })
+      (answer .0) (answer .1 .0) (answer .1 .1) (ap (λ (w : List ℕ). record { home = home; working = w; log = log }) clear ∙ memory)
+      ∙ sym (way-cut s c m mem zero n number none ops next working work h)

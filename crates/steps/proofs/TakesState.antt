@@ -5,19 +5,17 @@ use mathlib.Core.Bool.{true}
 use mathlib.Core.List.{List}
 use denote.Enum.Declared.{tagOf}
 use types.Run.{OneOf}
-use Rattle.steps.specs.Steps.{stepOf, takesState}
-use Rattle.steps.specs.declared.Step.{Step}
-use Rattle.steps.specs.declared.Step.the-variants.{Begin, Store, LogUndo, LogRedo, Evict, WriteBack, Commit, DeleteOldest, Recover}
-use Rattle.steps.proofs.Step.{the-type}
+use Rattle.model.specs.Step.{Step, begin, store, logUndo, logRedo, evict, writeBack, commit, deleteOldest, recover, takesState}
+use Rattle.parts.proofs.Step.{the-type}
 
 -- a variant that isn't the last, a recovery, takes one
-pub takes-one : (ks : List ℕ) (s : Step) → (OneOf ks 8 → ⊥) → OneOf ks (tagOf the-type s) → takesState (stepOf s) ≡ true
-takes-one ks (Begin t) other one = refl
-takes-one ks (Store t w v) other one = refl
-takes-one ks LogUndo other one = refl
-takes-one ks LogRedo other one = refl
-takes-one ks (Evict i) other one = refl
-takes-one ks (WriteBack i) other one = refl
-takes-one ks (Commit t) other one = refl
-takes-one ks DeleteOldest other one = refl
-takes-one ks Recover other one = absurd (other one)
+pub takes-one : (ks : List ℕ) (s : Step) → (OneOf ks 8 → ⊥) → OneOf ks (tagOf the-type s) → takesState s ≡ true
+takes-one ks (begin t) other one = refl
+takes-one ks (store t w v) other one = refl
+takes-one ks logUndo other one = refl
+takes-one ks logRedo other one = refl
+takes-one ks (evict i) other one = refl
+takes-one ks (writeBack i) other one = refl
+takes-one ks (commit t) other one = refl
+takes-one ks deleteOldest other one = refl
+takes-one ks recover other one = absurd (other one)

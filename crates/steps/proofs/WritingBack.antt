@@ -1,35 +1,33 @@
--- A line written back: what the step hands back when it is refused, cut, or done.
+-- A line written back: what the step hands back when it is cut or done.
 use Prim.Native.Nat.{ℕ, _+_, _-_, _*_, _/_, _≤_, _<_}
 use mathlib.Core.Path.{_≡_, refl, sym, ap, _∙_}
 use mathlib.Core.Bool.{Bool, false}
 use mathlib.Core.List.{List, [], map}
 use native.Mathlib.Omega.{arith}
-use lib.ListN.{length, replicate, getD, set, length-map}
+use lib.ListN.{length, take, replicate, getD, set, length-map}
 use lib.Seq.{set-getD}
 use Rattle.log.specs.Stores.{Store, storedUnder}
-use Rattle.log.proofs.Stored.{under-none}
 use Rattle.log.specs.Region.{slotsOf}
-use Rattle.log.specs.Holding.{Every}
 use Rattle.parts.specs.declared.Line.{Line}
 use Rattle.parts.specs.declared.Lines.{Lines}
 use Rattle.parts.specs.Lines.{lineAt, firstLines, putLine}
 use Rattle.parts.proofs.Listed.{length-listed}
 use Rattle.parts.proofs.FirstLines.{WholeLines}
-use Rattle.model.specs.Machine.{Machine, Memory, lostMachine, wordsOf, withLines, changed, dirtyAs}
-use Rattle.model.specs.Plan.{writeHome, planned}
-use Rattle.model.specs.Refusals.{Row, unless, numberOf}
-use Rattle.model.specs.Steps.{lineWrites, writeBackPlan}
-use Rattle.model.specs.Step.{writeBack, planOf, stepped}
+use Rattle.model.specs.Machine.{Memory, wordsOf, withLines, changed, dirtyAs}
+use Rattle.model.specs.Plan.{writeHome, putsOf, written}
+use Rattle.model.specs.Refusals.{numberOf, common}
+use Rattle.model.specs.Steps.{lineRows, lineWrites, writeBackNext}
+use Rattle.model.specs.Step.{writeBack, stepped}
 use Rattle.model.proofs.LinesInUse.{first-changed}
-use Rattle.model.proofs.Performing.{puts-homes, partly}
-use Rattle.model.proofs.Outcomes.{outcome-refused, outcome-done, outcome-cut}
+use Rattle.model.proofs.Performing.{puts-home, written-home}
+use Rattle.model.proofs.Outcomes.{passed-own}
 use Rattle.line_walks.specs.Walks.{lineStores}
 use Rattle.line_walks.proofs.LineStores.{stores-there}
 use Rattle.state.specs.declared.Fields.{Fields}
 use Rattle.state.specs.declared.Made.{Made}
 use Rattle.state.specs.View.{view, shown}
-use Rattle.steps.proofs.Outcome.{outcome-eq}
-use Rattle.steps.proofs.LineRows.{lineRows, none-refuse, LineFit, line-fit, line-there}
+use Rattle.steps.proofs.Outcome.{IsCut, done-way, cut-way}
+use Rattle.steps.proofs.LineRows.{LineFit, line-fit, line-there}
 
 -- the lines with other dirty flags, and the state with these lines
 abbrev withFlags : List Bool → Lines → Lines
@@ -57,66 +55,44 @@ flag-lines n ls i d ds whole h e = rw e (ap (firstLines n) (sym flag-put) ∙ fi
     flag-put : putLine ls i (dirtyAs d (lineAt ls i)) ≡ withFlags (set (ls .dirty) i d) ls
     flag-put = simp set-getD
 
-module _ (i c : ℕ) (s : Fields) (mem : Memory) where
-  abbrev rows : List Row
-  rows = lineRows (view s) mem i []
-
+-- What the step hands back once it is not refused.
+module _ (i c : ℕ) (s : Fields) (mem : Memory) (zero : numberOf (common (view s) mem) ≡ 0) (n : ℕ) (number : n ≡ numberOf (lineRows (view s) i))
+    (none : n ≡ 0) (home : List ℕ) (stores : home ≡ storedUnder c (mem .home) (lineStores (mem .working) i)) where
   abbrev writes : List Store
   writes = lineWrites (mem .working) i
 
-  abbrev next : Machine
-  next = withLines (changed (dirtyAs false) i (view s .lines)) (view s)
+  pub write-fit : LineFit (view s) mem i
+  write-fit = line-fit (view s) mem i [] zero (passed-own (writeBack i) c (view s) mem zero n number none)
 
-  plan : planOf (writeBack i) (view s) mem ≡ unless rows (planned (map writeHome writes) next (mem .working))
-  unfolding planOf writeBackPlan
-  plan = refl
+  eight : length (putsOf (slotsOf (mem .log)) (s .tail) (map writeHome writes)) ≡ 8
+  eight =
+      rw (puts-home, length-map) (length-map (wordsOf i) (λ w. record { at = w; value = getD (mem .working) w 0 }) ∙ length-listed 8 (λ j. 8 * i + j))
 
-  eight : length writes ≡ 8
-  eight = length-map (wordsOf i) (λ w. record { at = w; value = getD (mem .working) w 0 }) ∙ length-listed 8 (λ j. 8 * i + j)
+  there : lineStores (mem .working) i ≡ writes
+  there = stores-there (mem .working) i (line-there write-fit)
 
-  -- refused: all is as it was
-  pub write-refused : (n : ℕ) → n ≡ numberOf rows → (n ≡ 0 → ⊥)
-      → shown (record { answer = n; left = c; state = s }) (mem .home) (mem .working) (mem .log) ≡ stepped (writeBack i) c (view s) mem
-  write-refused n e some = sym (outcome-refused (writeBack i) c (view s) mem rows (map writeHome writes) next (mem .working) plan n (sym e) some refl)
+  -- what the first c stores leave
+  left-by : (after : List ℕ) → record { home = home; working = after; log = mem .log }
+      ≡ written mem (take c (putsOf (slotsOf (mem .log)) (s .tail) (map writeHome writes))) after
+  left-by after = rw (stores, there, puts-home (slotsOf (mem .log)) (s .tail) writes, written-home mem c writes after)
 
-  module _ (n : ℕ) (e : n ≡ numberOf rows) (z : n ≡ 0) where
-    none : Every (λ r. r .applies ≡ false) rows
-    none = none-refuse (view s) mem i [] tt (sym e ∙ z)
+  -- done: the supply was enough, and the line's flag was cleared
+  pub write-done : (left : ℕ) (flags : List Bool) → 8 ≤ c → left ≡ c - length (lineStores (mem .working) i)
+      → WholeLines (s .lines) → flags ≡ set (s .lines .dirty) i false
+      → shown (record { answer = 0; left = left; state = flagsReplaced s flags }) home (mem .working) (mem .log) ≡ stepped (writeBack i) c (view s) mem
+  write-done left flags h l whole cleared =
+      let size = eight in
+      let narrow = write-fit .narrow in
+      let count : length (putsOf (slotsOf (mem .log)) (s .tail) (map writeHome writes)) ≡ length writes = rw (puts-home, length-map) in
+      done-way (writeBack i) c (view s) mem zero n number none (map writeHome writes) (writeBackNext (view s) i) (mem .working) refl
+      (record { answer = 0; left = left; state = flagsReplaced s flags }) home (mem .log) (omega arith) refl
+      (l ∙ ap (λ (ss : List Store). c - length ss) there ∙ omega arith)
+      (ap (λ (ls : List Line). withLines ls (view s)) (flag-lines (s .words / 8) (s .lines) i false flags whole (omega arith) cleared))
+      (left-by (mem .working))
 
-    -- what is known where it is not refused
-    pub write-fit : LineFit (view s) mem i
-    write-fit = line-fit (view s) mem i [] none
-
-    -- the line is there
-    there : lineStores (mem .working) i ≡ writes
-    there = stores-there (mem .working) i (line-there write-fit)
-
-    module _ (home : List ℕ) (stores : home ≡ storedUnder c (mem .home) (lineStores (mem .working) i)) where
-      made : home ≡ storedUnder c (mem .home) writes
-      made = stores ∙ ap (storedUnder c (mem .home)) there
-
-      -- done: the supply was enough, and the line's flag was cleared
-      pub write-done : (left : ℕ) (flags : List Bool) → 8 ≤ c → left ≡ c - length (lineStores (mem .working) i)
-          → WholeLines (s .lines) → flags ≡ set (s .lines .dirty) i false
-          → shown (record { answer = 0; left = left; state = flagsReplaced s flags }) home (mem .working) (mem .log) ≡ stepped (writeBack i) c (view s) mem
-      write-done left flags h l whole cleared =
-          let size = eight in
-          let narrow = write-fit .narrow in
-          outcome-eq (shown (record { answer = 0; left = left; state = flagsReplaced s flags }) home (mem .working) (mem .log))
-          (record { answer = 0; left = c - (length writes + 0); machine = next; memory = partly mem c writes [] (mem .working) })
-          refl (l ∙ ap (λ (ss : List Store). c - length ss) there ∙ omega arith)
-          (ap (λ (ls : List Line). withLines ls (view s)) (flag-lines (s .words / 8) (s .lines) i false flags whole (omega arith) cleared)) made refl
-          (under-none (c - length writes) (mem .log) [] refl .1)
-          ∙ sym (outcome-done (writeBack i) c (view s) mem rows (map writeHome writes) next (mem .working) plan writes [] none
-          (puts-homes (slotsOf (mem .log)) (s .tail) writes) (omega arith))
-
-      -- cut: it was not
-      pub write-cut : (r : Made) (after : List ℕ) → c < 8 → (r .answer ≡ 255) × ((r .left ≡ 0) × (view (r .state) ≡ lostMachine))
-          → after ≡ replicate (length (mem .working)) 0 → shown r home after (mem .log) ≡ stepped (writeBack i) c (view s) mem
-      write-cut r after h answer cleared =
-          let size = eight in
-          outcome-eq (shown r home after (mem .log))
-          (record { answer = 255; left = 0; machine = lostMachine; memory = partly mem c writes [] (replicate (length (mem .working)) 0) })
-          (answer .0) (answer .1 .0) (answer .1 .1) made cleared (under-none (c - length writes) (mem .log) [] refl .1)
-          ∙ sym (outcome-cut (writeBack i) c (view s) mem rows (map writeHome writes) next (mem .working) plan writes [] none
-          (puts-homes (slotsOf (mem .log)) (s .tail) writes) (omega arith))
+  -- cut: it was not
+  pub write-cut : (r : Made) (after : List ℕ) → c < 8 → IsCut r → after ≡ replicate (length (mem .working)) 0
+      → shown r home after (mem .log) ≡ stepped (writeBack i) c (view s) mem
+  write-cut r after h answer clear =
+      cut-way (writeBack i) c (view s) mem zero n number none (map writeHome writes) (writeBackNext (view s) i) (mem .working) refl r home (mem .log)
+      after (let size = eight in omega arith) answer clear (left-by (replicate (length (mem .working)) 0))

@@ -1,10 +1,9 @@
 // "Begin t: opens a transaction; no stores."
 ghost use mathlib.Core.Path.{_≡_};
 ghost use Rattle.model.specs.Machine.{Memory};
-ghost use Rattle.model.specs.Refusals.{numberOf};
+ghost use Rattle.model.specs.Refusals.{numberOf, stateRows};
 ghost use Rattle.model.specs.Step.{begin, stepped};
 ghost use Rattle.state.specs.View.{view, shown};
-ghost use Rattle.steps.specs.Steps.{stateRows};
 use crate::refusals::refuse;
 use crate::refusals::refused;
 use state::BUSY;

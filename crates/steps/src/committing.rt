@@ -1,18 +1,18 @@
 // "Commit t: logs the whole undo+redo buffer, the whole redo buffer, then a redo record of the working value for each ULog word in
 // lines held by t, rising, then the commit record; .. lines held by t become unheld and all Clean".
 ghost use mathlib.Core.Path.{_≡_};
-ghost use mathlib.Core.List.{List, _∷_};
+ghost use mathlib.Core.Bool.{false};
+ghost use mathlib.Core.List.{List};
 ghost use Prim.Native.Nat.{ℕ, _+_, _%_, _≤_, _<_};
-ghost use lib.ListN.{length};
-ghost use Rattle.log.specs.declared.Record.{Record as Logged};
+ghost use lib.ListN.{length, getD};
 ghost use Rattle.log.specs.Region.{numbers};
 ghost use Rattle.model.specs.Machine.{Machine, Memory};
-ghost use Rattle.model.specs.Refusals.{numberOf, common as commonRows, unknownThread, notOpen, noRoom};
-ghost use Rattle.model.specs.Steps.{commitRecords};
+ghost use Rattle.model.specs.Refusals.{numberOf, common as commonRows};
+ghost use Rattle.model.specs.Steps.{commitRecords, commitRows};
 ghost use Rattle.model.specs.Step.{commit, stepped};
 ghost use Rattle.state.specs.View.{view, memory, shown};
-ghost use Rattle.steps.specs.Committing.{HasEntries, HasLog, Allowed};
-ghost use Rattle.steps.specs.Steps.{TakenOut};
+ghost use Rattle.steps.specs.Committing.{HasEntries, Allowed};
+ghost use Rattle.steps.specs.Steps.{TakenOut, LogOf};
 use crate::refusals::no_room;
 use crate::refusals::refuse;
 use crate::refusals::refused;
@@ -56,13 +56,13 @@ pub fn commit_refusal(
     count: u64,
 ) -> u64
     requires { ⌜ (head ≤ tail) × ((tail ≤ head + slots) × ((tail ≤ numbers) × (count ≤ 2048))) ⌝ }
-    ensures { λ r. ⌜ ((m : Machine) (rs : List Logged) → HasLog opened slots head tail thread m → count ≡ length rs
-        → r ≡ numberOf (unknownThread thread ∷ notOpen m thread ∷ noRoom m rs)) ⌝ }
+    ensures { λ r. ⌜ ((m : Machine) (mem : Memory) → getD (m .opened) (thread % 8) false ≡ opened → LogOf slots head tail m
+        → count ≡ length (commitRecords m mem thread) → r ≡ numberOf (commitRows m mem thread)) ⌝ }
 {
     refuse(
         7 < thread,
         THREAD,
-        refuse(!opened, IDLE, no_room(slots, head, tail, count, 0)),
+        refuse(!opened, IDLE, no_room(slots, head, tail, count)),
     )
 }
 

@@ -1,13 +1,32 @@
-// "Delete: one store, the head plus one": the oldest record goes, if nothing needs it.
+// "Delete: one store, the head plus one": the oldest record goes, if the verdict on it allows it.
 ghost use mathlib.Core.Path.{_≡_};
 ghost use Rattle.model.specs.Refusals.{numberOf, common as commonRows};
 ghost use Rattle.model.specs.Step.{deleteOldest, stepped};
+ghost use Rattle.model.specs.Steps.{verdictRows};
 ghost use Rattle.state.specs.View.{view, memory, shown};
 use crate::refusals::refused;
+use parts::Verdict;
+use recovery::oldest_verdict;
+use state::DAMAGED;
 use state::DONE;
 use state::Fields;
 use state::Made;
+use state::NEEDED;
+use state::NOTHING;
 use state::cut;
+
+// The number under which a delete is refused by the verdict on the oldest record, or 0.
+fn refusal(verdict: Verdict) -> u64
+    ensures { λ r. ⌜ r ≡ numberOf (verdictRows verdict) ⌝ }
+{
+    match verdict {
+        Verdict::Nothing => NOTHING,
+        Verdict::Damaged => DAMAGED,
+        Verdict::Open => NEEDED,
+        Verdict::Needed => NEEDED,
+        Verdict::Spare => 0,
+    }
+}
 
 // The step, of a state that the common rows do not refuse.
 pub fn deleted(
@@ -22,7 +41,7 @@ pub fn deleted(
         ≡ stepped deleteOldest supply (view state) (memory (now (home .entry)) (now (working .entry)) (now (log .entry))) ⌝ }
 {
     let dirty = state.lines.dirty;
-    let number = recovery::delete_refusal(state.head, state.tail, state.words, &dirty, log);
+    let number = refusal(oldest_verdict(state.head, state.tail, state.words, &dirty, log));
     if number != 0 {
         return refused(number, supply, state);
     }

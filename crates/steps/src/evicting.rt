@@ -47,7 +47,7 @@ pub fn evicted(
         ≡ stepped (evict line) supply (view state) (memory (now (home .entry)) (now (working .entry)) (now (log .entry))) ⌝ }
 {
     let count = lacking(state.redos.len, &state.lines.states, line);
-    let room = no_room(state.slots, state.head, state.tail, count as u64, 0);
+    let room = no_room(state.slots, state.head, state.tail, count as u64);
     let number = line_refusal(state.words, &state.lines.states, line, room);
     if number != 0 {
         return refused(number, supply, state);

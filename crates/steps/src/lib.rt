@@ -13,16 +13,3 @@ mod words;
 mod writing_back;
 
 pub use stepping::make;
-
-// One of the nine steps.
-pub enum Step {
-    Begin { thread: u64 },
-    Store { thread: u64, word: u64, value: u64 },
-    LogUndo,
-    LogRedo,
-    Evict { line: u64 },
-    WriteBack { line: u64 },
-    Commit { thread: u64 },
-    DeleteOldest,
-    Recover,
-}

@@ -1,15 +1,16 @@
 // "Log undo: the oldest undo+redo entry is logged", "Log redo: the oldest redo entry is logged".
 ghost use mathlib.Core.Path.{_≡_};
-ghost use mathlib.Core.List.{List, [], _∷_, _++_};
+ghost use mathlib.Core.List.{List};
 ghost use Prim.Native.Nat.{_+_, _≤_, min};
 ghost use lib.ListN.{length};
 ghost use Rattle.log.specs.declared.Record.{Record};
 ghost use Rattle.log.specs.Region.{numbers};
-ghost use Rattle.model.specs.Machine.{Machine};
-ghost use Rattle.model.specs.Lists.{isEmpty};
-ghost use Rattle.model.specs.Refusals.{numberOf, row, nothing, noRoom, common as commonRows};
+ghost use Rattle.model.specs.Machine.{Machine, Memory};
+ghost use Rattle.model.specs.Refusals.{numberOf, common as commonRows};
+ghost use Rattle.model.specs.Steps.{oldestRows};
 ghost use Rattle.model.specs.Step.{logUndo, logRedo, stepped};
 ghost use Rattle.state.specs.View.{view, memory, shown};
+ghost use Rattle.steps.specs.Steps.{LogOf};
 use crate::refusals::no_room;
 use crate::refusals::refused;
 use line_walks::mark_logged;
@@ -23,16 +24,16 @@ use state::Made;
 use state::NOTHING;
 use state::cut;
 
-// The number under which the oldest entry of a buffer of `len` entries is not logged, or 0; `records` is its record, or none.
+// The number under which the oldest entry of a buffer of `len` entries is not logged, or 0.
 fn refusal(len: usize, slots: u16, head: u64, tail: u64) -> u64
     requires { ⌜ (head ≤ tail) × ((tail ≤ head + slots) × (tail ≤ numbers)) ⌝ }
-    ensures { λ r. ⌜ ((m : Machine) (records : List Record) → m .slots ≡ slots → m .head ≡ head → m .tail ≡ tail → length records ≡ min 1 len
-        → r ≡ numberOf (noRoom m records ++ (row (isEmpty records) nothing ∷ []))) ⌝ }
+    ensures { λ r. ⌜ ((m : Machine) (mem : Memory) (records : List Record) → LogOf slots head tail m → length records ≡ min 1 len
+        → r ≡ numberOf (oldestRows m mem records)) ⌝ }
 {
     if len == 0 {
         return NOTHING;
     }
-    no_room(slots, head, tail, 1, 0)
+    no_room(slots, head, tail, 1)
 }
 
 // The step log undo, of a state that the common rows do not refuse.

@@ -1,14 +1,15 @@
 // The table of refusals: rows in rising order, and those that several steps share.
 ghost use mathlib.Core.Path.{_≡_};
-ghost use mathlib.Core.Bool.{cond, _&&_};
-ghost use Prim.Native.Nat.{_+_, _-_, _≤_};
-ghost use lib.Dec.{ltb};
+ghost use mathlib.Core.Bool.{cond};
+ghost use Prim.Native.Nat.{_+_, _≤_};
 ghost use Rattle.log.specs.Region.{numbers};
-ghost use Rattle.model.specs.Machine.{Machine};
+ghost use Rattle.model.specs.Machine.{Machine, Memory};
 ghost use Rattle.model.specs.Consistent.{consistent};
-ghost use Rattle.model.specs.Refusals.{numberOf, common as commonRows};
+ghost use Rattle.model.specs.Refusals.{numberOf, noRoom, common as commonRows};
 ghost use Rattle.state.specs.View.{memory};
+ghost use Rattle.steps.specs.Steps.{LogOf};
 use crate::sizes::wrong_size;
+use log::NUMBERS;
 use state::EXHAUSTED;
 use state::FULL;
 use state::Fields;
@@ -46,7 +47,7 @@ pub fn common(
     working: &[u64],
     log: &[u64],
 ) -> u64
-    ensures { λ r. ⌜ ((m : Machine) → m .lost ≡ lost → m .words ≡ words → m .slots ≡ slots → m .head ≡ head → sound ≡ consistent m
+    ensures { λ r. ⌜ ((m : Machine) → m .lost ≡ lost → m .sizes .words ≡ words → m .sizes .slots ≡ slots → m .span .head ≡ head → sound ≡ consistent m
         → r ≡ numberOf (commonRows m (memory (now (home .entry)) (now (working .entry)) (now (log .entry))))) ⌝ }
 {
     let consistent = sound & (log::head(log) == head);
@@ -57,19 +58,15 @@ pub fn common(
     )
 }
 
-// The rows of a step that logs `count` records, before the rest; head and tail are those of a log of so many slots.
-pub fn no_room(slots: u16, head: u64, tail: u64, count: u64, rest: u64) -> u64
+// The rows of a step that logs `count` records; head and tail are those of a log of so many slots.
+pub fn no_room(slots: u16, head: u64, tail: u64, count: u64) -> u64
     requires { ⌜ (head ≤ tail) × ((tail ≤ head + slots) × ((tail ≤ numbers) × (count ≤ 2048))) ⌝ }
-    ensures { λ r. ⌜ r ≡ cond (ltb (slots - (tail - head)) count) 10 (cond (ltb 0 count && ltb numbers (tail + count)) 11 rest) ⌝ }
+    ensures { λ r. ⌜ ((m : Machine) (mem : Memory) → LogOf slots head tail m → r ≡ numberOf (noRoom m mem count)) ⌝ }
 {
     let free = slots as u64 - (tail - head);
     refuse(
         free < count,
         FULL,
-        refuse(
-            (0 < count) & (0x1_0000_0000_0000 < tail + count),
-            EXHAUSTED,
-            rest,
-        ),
+        refuse((0 < count) & (NUMBERS < tail + count), EXHAUSTED, 0),
     )
 }

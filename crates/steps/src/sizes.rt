@@ -14,7 +14,7 @@ pub fn wrong_size(
     working: &[u64],
     log: &[u64],
 ) -> bool
-    ensures { λ r. ⌜ ((m : Machine) → m .lost ≡ lost → m .words ≡ words → m .slots ≡ slots
+    ensures { λ r. ⌜ ((m : Machine) → m .lost ≡ lost → m .sizes .words ≡ words → m .sizes .slots ≡ slots
         → r ≡ wrongSize m (memory (now (home .entry)) (now (working .entry)) (now (log .entry)))) ⌝ }
 {
     let width = words as usize;

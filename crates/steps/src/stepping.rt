@@ -3,10 +3,9 @@ ghost use mathlib.Core.Path.{_≡_};
 ghost use mathlib.Core.Bool.{true};
 ghost use Rattle.model.specs.Consistent.{consistent};
 ghost use Rattle.model.specs.Refusals.{numberOf};
-ghost use Rattle.model.specs.Step.{stepped};
+ghost use Rattle.model.specs.Step.{takesState, firstRows, stepped};
 ghost use Rattle.state.specs.View.{view, memory, shown};
-ghost use Rattle.steps.specs.Steps.{stepOf, takesState, early, TakenOut};
-use crate::Step;
+ghost use Rattle.steps.specs.Steps.{TakenOut};
 use crate::beginning::begun;
 use crate::committing::committed;
 use crate::deleting::deleted;
@@ -19,6 +18,7 @@ use crate::refusals::refused;
 use crate::storing::stored;
 use crate::writing_back::written_back;
 use consistency::is_consistent;
+use parts::Step;
 use recovery::recover;
 use state::Fields;
 use state::INCONSISTENT;
@@ -27,7 +27,7 @@ use state::Made;
 
 // Every step but a recovery takes a state.
 fn takes_state(step: Step) -> bool
-    ensures { λ r. ⌜ r ≡ takesState (stepOf step) ⌝ }
+    ensures { λ r. ⌜ r ≡ takesState step ⌝ }
 {
     match step {
         Step::Recover => false,
@@ -38,8 +38,8 @@ fn takes_state(step: Step) -> bool
 // The number of the rows that come before a step's own, or 0; `sound` says whether the state that it takes is consistent. A recovery has
 // none, and a begin is lent no buffers.
 fn unfit(state: Fields, step: Step, sound: bool, home: &[u64], working: &[u64], log: &[u64]) -> u64
-    requires { ⌜ (takesState (stepOf step) ≡ true → sound ≡ consistent (view state)) ⌝ }
-    ensures { λ r. ⌜ r ≡ numberOf (early (stepOf step) (view state) (memory (now (home .entry)) (now (working .entry)) (now (log .entry)))) ⌝ }
+    requires { ⌜ (takesState step ≡ true → sound ≡ consistent (view state)) ⌝ }
+    ensures { λ r. ⌜ r ≡ numberOf (firstRows step (view state) (memory (now (home .entry)) (now (working .entry)) (now (log .entry)))) ⌝ }
 {
     match step {
         Step::Begin { thread: _ } => refuse(state.lost, LOST, refuse(!sound, INCONSISTENT, 0)),
@@ -70,9 +70,9 @@ fn made<'a>(
     supply: u64,
 ) -> Made
     requires { ⌜ TakenOut (now opened) (now holders) (now states) state ⌝ }
-    requires { ⌜ numberOf (early (stepOf step) (view state) (memory (now home) (now working) (now log))) ≡ 0 ⌝ }
+    requires { ⌜ numberOf (firstRows step (view state) (memory (now home) (now working) (now log))) ≡ 0 ⌝ }
     ensures { λ (r : Made). ⌜ shown r (now (home .exit)) (now (working .exit)) (now (log .exit))
-        ≡ stepped (stepOf step) supply (view state) (memory (now (home .entry)) (now (working .entry)) (now (log .entry))) ⌝ }
+        ≡ stepped step supply (view state) (memory (now (home .entry)) (now (working .entry)) (now (log .entry))) ⌝ }
 {
     match step {
         Step::Begin { thread } => begun(state, supply, thread),
@@ -123,7 +123,7 @@ pub fn make(
     supply: u64,
 ) -> Made
     ensures { λ (r : Made). ⌜ shown r (now (home .exit)) (now (working .exit)) (now (log .exit))
-        ≡ stepped (stepOf step) supply (view state) (memory (now (home .entry)) (now (working .entry)) (now (log .entry))) ⌝ }
+        ≡ stepped step supply (view state) (memory (now (home .entry)) (now (working .entry)) (now (log .entry))) ⌝ }
 {
     let opened = state.opened;
     let holders = state.lines.holders;

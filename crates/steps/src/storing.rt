@@ -1,20 +1,20 @@
 // "Store t, word, value": the line is claimed, and another value is filed by the word's state.
 ghost use mathlib.Core.Path.{_≡_};
-ghost use mathlib.Core.Bool.{cond, _&&_, not};
+ghost use mathlib.Core.Bool.{_&&_, not};
 ghost use mathlib.Core.List.{[], _∷_};
-ghost use Prim.Native.Nat.{ℕ, _+_, _-_, _/_, _%_, _≤_, _<_};
-ghost use lib.Dec.{eqb, ltb};
+ghost use Prim.Native.Nat.{ℕ, _+_, _/_, _%_, _≤_, _<_};
+ghost use lib.Dec.{eqb};
 ghost use lib.ListN.{getD};
 ghost use Rattle.log.specs.Region.{numbers};
 ghost use Rattle.parts.specs.Lines.{nobody, firstLines};
 ghost use Rattle.model.specs.Machine.{Machine, Memory, holderIn};
-ghost use Rattle.model.specs.Refusals.{numberOf, common as commonRows, unknownThread, unknownWord};
+ghost use Rattle.model.specs.Refusals.{numberOf, row, idle as idleNumber, held, noRoom, common as commonRows, unknownThread, unknownWord};
 ghost use Rattle.model.specs.Step.{store, stepped};
 ghost use Rattle.model.specs.Steps.{storeLogs, storeNext};
 ghost use Rattle.logging.specs.Progressed.{Stored};
 ghost use Rattle.logging.specs.Records.{undoRecordsOf};
 ghost use Rattle.state.specs.View.{view, memory, shown};
-ghost use Rattle.steps.specs.Steps.{TakenOut};
+ghost use Rattle.steps.specs.Steps.{TakenOut, LogOf};
 use crate::places::push_thread;
 use crate::places::push_value;
 use crate::places::push_word;
@@ -78,7 +78,7 @@ pub fn logs_first(states: &[u16; 64], len: usize, word: u16, same: bool) -> usiz
 
 // The state after a store that replaces `entry.undo` by `entry.redo` and that logs `count` entries first.
 pub fn next_state(mut state: Fields, entry: Entry, count: usize) -> Fields
-    requires { ⌜ (state .undos .len ≤ 16) × ((state .redos .len ≤ 32) × (state .tail ≤ 281474976710656)) ⌝ }
+    requires { ⌜ (state .undos .len ≤ 16) × ((state .redos .len ≤ 32) × (state .tail ≤ numbers)) ⌝ }
     requires { ⌜ (entry .word < state .words) × ((state .words ≤ 512) × (state .words % 8 ≡ 0)) ⌝ }
     requires { ⌜ count ≡ storeLogs (view state) (entry .word) (eqb (entry .redo) (entry .undo)) ⌝ }
     ensures { λ (r : Fields). ⌜ ((mem : Memory) → getD (mem .working) (entry .word) 0 ≡ entry .undo
@@ -127,7 +127,7 @@ pub fn next_state(mut state: Fields, entry: Entry, count: usize) -> Fields
 
 // The number of an unknown thread or word, or 0.
 pub fn early_refusal(words: u16, thread: u64, word: u64) -> u64
-    ensures { λ r. ⌜ ((m : Machine) → m .words ≡ words → r ≡ numberOf (unknownThread thread ∷ unknownWord m word ∷ [])) ⌝ }
+    ensures { λ r. ⌜ ((m : Machine) → m .sizes .words ≡ words → r ≡ numberOf (unknownThread thread ∷ unknownWord m word ∷ [])) ⌝ }
 {
     refuse(7 < thread, THREAD, refuse(words as u64 <= word, PLACE, 0))
 }
@@ -135,13 +135,13 @@ pub fn early_refusal(words: u16, thread: u64, word: u64) -> u64
 // The number under which a store of a known thread to a known word is refused, or 0; it logs `count` records.
 pub fn late_refusal(idle: bool, taken: bool, count: usize, slots: u16, head: u64, tail: u64) -> u64
     requires { ⌜ (head ≤ tail) × ((tail ≤ head + slots) × ((tail ≤ numbers) × (count ≤ 1))) ⌝ }
-    ensures { λ r. ⌜ r ≡ cond idle 6 (cond taken 8
-        (cond (ltb (slots - (tail - head)) count) 10 (cond (ltb 0 count && ltb numbers (tail + count)) 11 0))) ⌝ }
+    ensures { λ r. ⌜ ((m : Machine) (mem : Memory) → LogOf slots head tail m
+        → r ≡ numberOf (row idle idleNumber ∷ row taken held ∷ noRoom m mem count)) ⌝ }
 {
     refuse(
         idle,
         IDLE,
-        refuse(taken, HELD, no_room(slots, head, tail, count as u64, 0)),
+        refuse(taken, HELD, no_room(slots, head, tail, count as u64)),
     )
 }
 

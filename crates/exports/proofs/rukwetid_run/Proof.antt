@@ -5,6 +5,9 @@ use Rattle.exports.specs.Exported.{exportOf}
 use Rattle.exports.proofs.rukwetid_run.Statement.{statement}
 use Rattle.exports.proofs.rukwetid_run.Tie as tie
 
+lost-requires : tie.Need-lost-requires
+lost-requires c κs = search needs
+
 run-requires : tie.Need-run-requires
 run-requires c κs = search needs
 
@@ -24,12 +27,15 @@ same-length-5 : tie.Need-same-length-5
 same-length-5 c = search needs
 
 returns : tie.Need-returns
-returns c = ap exportOf (c .before .before .before .before .before .before .before .before .before .before .run .ensures)
+returns c =
+    let d = c .before .before .before .before .before .before .before .before .before .before in
+    ap exportOf (rw (d .before .before .before .before .before .before .lost .ensures) at (d .run .ensures))
 
 pub rukwetid-run-spec : {M : Type 1} → statement M
 rukwetid-run-spec =
     tie.close
     (tie.spec
+    lost-requires
     run-requires
     same-length
     same-length-2

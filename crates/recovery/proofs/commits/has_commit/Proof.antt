@@ -4,15 +4,16 @@ use mathlib.Core.Path.{_≡_, refl, _∙_, ap}
 use native.Mathlib.Omega.{arith}
 use borrow.Author.Needs.{needs}
 use Rattle.log.specs.Region.{readFrom}
-use Rattle.model.specs.Lists.{any}
-use Rattle.model.specs.Steps.{isCommitOf}
-use Rattle.recovery.proofs.ReadOn.{any-here, any-next, any-none}
+use Rattle.model.specs.Readings.{records, closed}
+use Rattle.recovery.specs.Recovering.{closes as closesThread}
+use Rattle.recovery.proofs.ReadOn.{closed-here, closed-next, closed-none}
 use Rattle.recovery.proofs.commits.has_commit.Statement.{statement}
 use Rattle.recovery.proofs.commits.has_commit.Tie as tie
 
 abbrev Inv-loop : tie.InvT-loop
 Inv-loop log from to words thread number₀ number =
-    any (isCommitOf thread) (readFrom (to - number) words log number) ≡ any (isCommitOf thread) (readFrom (to - from) words log from)
+    closed thread (records (readFrom (to - number) words log number))
+    ≡ closed thread (records (readFrom (to - from) words log from))
 
 abbrev μ-loop : tie.MeasureT-loop
 μ-loop log from to words thread number₀ number = to - number
@@ -23,14 +24,14 @@ loop-holds c = refl
 read-requires : tie.Need-read-requires Inv-loop μ-loop
 read-requires c κs = search needs
 
-is-commit-of-requires : tie.Need-is-commit-of-requires Inv-loop μ-loop
-is-commit-of-requires c κs = search needs
+closes-requires : tie.Need-closes-requires Inv-loop μ-loop
+closes-requires c κs = search needs
 
 returns : tie.Need-returns Inv-loop μ-loop
 returns c =
     let a = c .before .before .before .before .before .before .args in
-    any-here (isCommitOf (a .thread)) _ _ _ _ (c .before .before .before .loop-test .taken) _
-    (c .before .is-commit-of .ensures ∙ ap (isCommitOf (a .thread)) (c .before .before .read .ensures))
+    closed-here (a .thread) _ _ _ _ (c .before .before .before .loop-test .taken) _
+    (c .before .closes .ensures ∙ ap (closesThread (a .thread)) (c .before .before .read .ensures))
     (c .if1 .taken)
     ∙ c .before .before .before .before .loop .inv
 
@@ -43,15 +44,15 @@ loop-less c = omega arith
 loop-again : tie.Need-loop-again Inv-loop μ-loop
 loop-again c =
     let a = c .before .before .before .before .before .before .args in
-    any-next (isCommitOf (a .thread)) _ _ _ _ (c .before .before .before .loop-test .taken) _
-    (c .before .is-commit-of .ensures ∙ ap (isCommitOf (a .thread)) (c .before .before .read .ensures))
+    closed-next (a .thread) _ _ _ _ (c .before .before .before .loop-test .taken) _
+    (c .before .closes .ensures ∙ ap (closesThread (a .thread)) (c .before .before .read .ensures))
     (c .if1 .left)
     ∙ c .before .before .before .before .loop .inv
 
 returns-2 : tie.Need-returns-2 Inv-loop μ-loop
 returns-2 c =
     let a = c .before .before .before .args in
-    any-none (isCommitOf (a .thread)) _ _ _ _ (c .loop-test .left) ∙ c .before .loop .inv
+    closed-none (a .thread) _ _ _ _ (c .loop-test .left) ∙ c .before .loop .inv
 
 pub has-commit-spec : {M : Type 1} → statement M
 has-commit-spec =
@@ -61,7 +62,7 @@ has-commit-spec =
     μ-loop
     loop-holds
     read-requires
-    is-commit-of-requires
+    closes-requires
     returns
     add-number
     loop-less

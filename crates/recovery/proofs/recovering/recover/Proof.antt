@@ -5,7 +5,7 @@ use Rattle.model.specs.Machine.{Memory}
 use Rattle.model.specs.Refusals.{numberOf}
 use Rattle.state.specs.View.{memory}
 use Rattle.recovery.specs.Recovering.{unreadableRows}
-use Rattle.recovery.proofs.RecoverStep.{fits-unread, refused-unread, recover-refused, recover-damaged, recover-cut, recover-done}
+use Rattle.recovery.proofs.RecoverStep.{fits-unread, recover-unread, recover-damaged, recover-cut, recover-done}
 use borrow.Author.Needs.{needs}
 use Rattle.recovery.proofs.recovering.recover.Statement.{statement}
 use Rattle.recovery.proofs.recovering.recover.Tie as tie
@@ -28,14 +28,13 @@ same-length-3 c = search needs
 returns : tie.Need-returns
 returns c =
     let a = c .before .before .before .before .before .before .before .before .before .args in
-    let m = memory (a .home .now) (a .working .now) (a .log .now) in
-    recover-refused m (a .supply) _ (c .before .before .unreadable .result)
-    (refused-unread m _ (c .before .before .unreadable .ensures) (c .before .if1 .taken))
+    recover-unread (memory (a .home .now) (a .working .now) (a .log .now)) (a .supply) _
+    (c .before .before .unreadable .ensures)
     (c .before .if1 .taken)
+    _
+    _
+    _
     (c .refused .ensures)
-    refl
-    refl
-    refl
 
 -- the buffers at the start, where the log can be read
 abbrev before : tie.Else1 → Memory
@@ -81,7 +80,8 @@ returns-2 c =
     let after = c .before .before .before .before in
     let read = after .before .before .before .before .before in
     let a = read .before .before .before .before .before .before .before .before .args in
-    recover-damaged (before read) (a .supply) _ (zero read) (after .replay .result) (after .replay .ensures .0) (after .replay .ensures .1)
+    recover-damaged (before read) (a .supply) (zero read) (after .replay .result) (after .replay .ensures .0) _ _ _ _ _ _
+    (after .replay .ensures .1)
     (c .before .if2 .taken)
     (c .refused2 .ensures)
     refl
@@ -108,7 +108,8 @@ returns-3 c =
     let after = headed .before .before .before .before .before in
     let read = after .before .before .before .before .before in
     let a = read .before .before .before .before .before .before .before .before .args in
-    recover-cut (before read) (a .supply) _ (zero read) (after .replay .result) (after .replay .ensures .0) (after .replay .ensures .1)
+    recover-cut (before read) (a .supply) (zero read) (after .replay .result) (after .replay .ensures .0) _ _ _ _ _ _
+    (after .replay .ensures .1)
     (headed .before .before .if2 .left)
     (headed .set-head .ensures .1)
     (c .before .before .before .before .if3 .taken)
@@ -143,7 +144,8 @@ returns-4 c =
     let read = after .before .before .before .before .before in
     let a = read .before .before .before .before .before .before .before .before .args in
     let counted = after .before .before .before .slots in
-    recover-done (before read) (a .supply) _ (zero read) (after .replay .result) (after .replay .ensures .0) (after .replay .ensures .1)
+    recover-done (before read) (a .supply) (zero read) (after .replay .result) (after .replay .ensures .0) _ _ _ _ _ _
+    (after .replay .ensures .1)
     (headed .before .before .if2 .left)
     (headed .set-head .ensures .1)
     (c .before .before .before .before .before .before .if3 .left)

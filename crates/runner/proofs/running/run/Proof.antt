@@ -37,7 +37,7 @@ next : {i n : ℕ} → i < n → n * 8 < 2 ^ 63 → Fits w64 (i + 1)
 next h k = omega arith
 
 abbrev Inv-loop : tie.InvT-loop
-Inv-loop home₀ working₀ log₀ kinds threads places values supplies answers₀ stores₀ state₀ i₀ home working log answers stores state i =
+Inv-loop state₀ home₀ working₀ log₀ kinds threads places values supplies answers₀ stores₀ i₀ state home working log answers stores i =
     (i ≤ length kinds) ×
     (length kinds * 8 < 2 ^ 63) ×
     (length home ≡ length home₀) ×
@@ -47,18 +47,15 @@ Inv-loop home₀ working₀ log₀ kinds threads places values supplies answers�
     (length stores ≡ length stores₀) ×
     (runnable (script kinds threads places values supplies) answers₀ stores₀ ≡ true) ×
     Alike (script kinds threads places values supplies) answers₀ stores₀ ×
-    Upto (atFirst (memory home₀ working₀ log₀)) (timedAt (script kinds threads places values supplies)) answers₀ stores₀ i
+    Upto (atFirst (view state₀) (memory home₀ working₀ log₀)) (timedAt (script kinds threads places values supplies)) answers₀ stores₀ i
     (view state)
     (memory home working log)
     answers
     stores
 
 abbrev μ-loop : tie.MeasureT-loop
-μ-loop home₀ working₀ log₀ kinds threads places values supplies answers₀ stores₀ state₀ i₀ home working log answers stores state i =
+μ-loop state₀ home₀ working₀ log₀ kinds threads places values supplies answers₀ stores₀ i₀ state home working log answers stores i =
     length kinds - i
-
-lost-requires : tie.Need-lost-requires Inv-loop μ-loop
-lost-requires c κs = search needs
 
 is-runnable-requires : tie.Need-is-runnable-requires Inv-loop μ-loop
 is-runnable-requires c κs = search needs
@@ -71,22 +68,20 @@ same-length-2 c = search needs
 
 returns : tie.Need-returns Inv-loop μ-loop
 returns c =
-    let a = c .before .before .before .before .before .before .before .before .before .before .before .before .before .before .before .args in
+    let a = c .before .before .before .before .before .before .before .before .before .before .before .before .before .before .args in
     let test = c .before .is-runnable in
-    let lost = c .before .before .before .before .lost in
     run-refused (script (a .kinds .now) (a .threads .now) (a .places .now) (a .values .now) (a .supplies .now))
+    (view (a .state))
     (memory (a .home .now) (a .working .now) (a .log .now))
     (a .answers .now)
     (a .stores .now)
-    (view (lost .result))
     (test .result)
     (test .ensures)
     (c .if1 .taken)
-    (lost .ensures)
 
 loop-holds : tie.Need-loop-holds Inv-loop μ-loop
 loop-holds c =
-    let start = c .before .before .before .before .before .before .before .before .before .before .before .before .before .before .before in
+    let start = c .before .before .before .before .before .before .before .before .before .before .before .before .before .before in
     let a = start .args in
     let s : Script = script (a .kinds .now) (a .threads .now) (a .places .now) (a .values .now) (a .supplies .now) in
     let test = c .before .is-runnable in
@@ -100,7 +95,7 @@ loop-holds c =
       refl,
       can,
       alike s _ _ can,
-      upto-none _ _ _ _ _ (c .before .before .before .before .lost .ensures),
+      upto-none _ _ _ _,
     )
 
 step-at-requires : tie.Need-step-at-requires Inv-loop μ-loop
@@ -169,7 +164,7 @@ loop-again c =
     let o = d .before .before .before .before .before in
     let turn = o .before in
     let first = turn .before .before .before .before .before .before .before .before .before in
-    let a = first .before .before .before .before .before .before .before .before .args in
+    let a = first .before .before .before .before .before .before .before .args in
     let l = turn .before .loop in
     let u = l .inv in
     let h = turn .loop-test .taken in
@@ -212,7 +207,7 @@ returns-2 : tie.Need-returns-2 Inv-loop μ-loop
 returns-2 c =
     let l = c .before .loop in
     let n = l .inv .8 in
-    run-made _ _ _ _
+    run-made _ _ _ _ _
     (reported (record { answer = 0; state = l .state }) (l .home) (l .working) (l .log) (l .answers) (l .stores))
     (l .inv .7)
     (upto-all _ _ _ _ (l .i) _ (view (l .state)) (memory (l .home) (l .working) (l .log)) (l .answers) (l .stores) (l .inv .9)
@@ -226,7 +221,6 @@ run-spec =
     (tie.spec
     Inv-loop
     μ-loop
-    lost-requires
     is-runnable-requires
     same-length
     same-length-2

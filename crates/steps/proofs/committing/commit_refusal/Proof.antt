@@ -14,10 +14,10 @@ refuse-requires-2 : tie.Need-refuse-requires-2
 refuse-requires-2 c κs = search needs
 
 returns : tie.Need-returns
-returns c m rs has e =
+returns c m mem opened log e =
     let a = c .before .before .before .args in
-    rw (c .refuse2 .ensures, c .before .refuse .ensures, c .before .before .no-room .ensures)
-    (commit-number (a .opened) (a .slots) (a .head) (a .tail) (a .thread) (a .count) m rs has e)
+    rw (c .refuse2 .ensures, c .before .refuse .ensures)
+    (commit-number (a .opened) (a .thread) (a .count) (c .before .before .no-room .result) m mem opened (c .before .before .no-room .ensures m mem log) e)
 
 pub commit-refusal-spec : {M : Type 1} → statement M
 commit-refusal-spec =

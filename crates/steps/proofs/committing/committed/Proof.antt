@@ -2,15 +2,17 @@
 use Prim.Native.Nat.{_%_}
 use mathlib.Core.Path.{_≡_, refl, sym, _∙_, ap}
 use mathlib.Core.Bool.{Bool, false}
-use mathlib.Core.List.{List, _∷_}
+use mathlib.Core.List.{List}
 use native.Mathlib.Omega.{arith}
 use borrow.Author.Needs.{needs}
 use lib.ListN.{length, getD}
-use Rattle.model.specs.Refusals.{numberOf, unknownThread, notOpen, noRoom}
-use Rattle.model.specs.Steps.{commitRecords}
+use Rattle.model.specs.Refusals.{numberOf}
+use Rattle.model.specs.Steps.{commitRecords, commitRows}
+use Rattle.model.specs.Step.{commit}
+use Rattle.model.proofs.Outcomes.{refused-own}
 use Rattle.state.specs.View.{view, memory}
 use Rattle.steps.specs.Committing.{Allowed}
-use Rattle.steps.proofs.Commits.{Sizes, sized, ready, commit-refused}
+use Rattle.steps.proofs.Commits.{Sizes, sizes, commit-room, known-thread}
 use Rattle.steps.proofs.committing.committed.Statement.{statement}
 use Rattle.steps.proofs.committing.committed.Tie as tie
 
@@ -18,7 +20,7 @@ use Rattle.steps.proofs.committing.committed.Tie as tie
 size : (c : tie.Start) → Sizes (c .args .state)
 size c =
     let a = c .args in
-    sized (a .state) (a .thread) (a .supply) (a .home .now) (a .working .now) (a .log .now) (c .pre .1)
+    sizes (a .state) (memory (a .home .now) (a .working .now) (a .log .now)) (c .pre .1)
 
 -- how many records there are
 counted : (c : tie.After-count-records)
@@ -49,20 +51,13 @@ commit-refusal-requires c κs =
 -- the number of the rows after the common ones
 later : (c : tie.After-commit-refusal)
     → let a = c .before .before .before .before .before .before .args in
-    c .commit-refusal .result
-    ≡ numberOf (unknownThread (a .thread) ∷ notOpen (view (a .state)) (a .thread)
-    ∷ noRoom (view (a .state)) (commitRecords (view (a .state)) (memory (a .home .now) (a .working .now) (a .log .now)) (a .thread)))
+    c .commit-refusal .result ≡ numberOf (commitRows (view (a .state)) (memory (a .home .now) (a .working .now) (a .log .now)) (a .thread))
 later c =
     let start = c .before .before .before .before .before .before in
     let a = start .args in
     let mem = memory (a .home .now) (a .working .now) (a .log .now) in
-    c .commit-refusal .ensures (view (a .state)) (commitRecords (view (a .state)) mem (a .thread))
-    (record {
-      opened = ap (λ (os : List Bool). getD os (a .thread % 8) false) (sym (start .pre .0 .isOpened));
-      slots = refl;
-      head = refl;
-      tail = refl;
-    }) (counted (c .before .before))
+    c .commit-refusal .ensures (view (a .state)) mem (ap (λ (os : List Bool). getD os (a .thread % 8) false) (sym (start .pre .0 .isOpened)))
+    (record { slots = refl; head = refl; tail = refl }) (counted (c .before .before))
 
 refused-requires : tie.Need-refused-requires
 refused-requires c κs = search needs
@@ -73,8 +68,8 @@ returns c =
     let start = refusal .before .before .before .before .before .before in
     let a = start .args in
     rw (c .refused .ensures)
-    (commit-refused (a .state) (a .thread) (a .supply) (a .home .now) (a .working .now) (a .log .now) (start .pre .1)
-    (refusal .commit-refusal .result) (later refusal) (c .before .if1 .taken))
+    (refused-own (commit (a .thread)) (a .supply) (view (a .state)) (memory (a .home .now) (a .working .now) (a .log .now)) (start .pre .1)
+    (refusal .commit-refusal .result) (later refusal) (c .before .if1 .taken) refl)
 
 -- no row applies
 allowed : (c : tie.Else1)
@@ -83,7 +78,7 @@ allowed : (c : tie.Else1)
 allowed c =
     record {
       common = c .before .before .before .before .before .before .before .pre .1;
-      others = sym (later (c .before)) ∙ c .if1 .left;
+      own = sym (later (c .before)) ∙ c .if1 .left;
       records = counted (c .before .before .before);
     }
 
@@ -93,11 +88,11 @@ carry-out-requires c κs =
     let start = passed .before .before .before .before .before .before .before in
     let a = start .args in
     let y = size start in
-    let z = ready (a .state) (a .thread) (a .supply) (a .home .now) (a .working .now) (a .log .now) (start .pre .1)
-    (passed .before .commit-refusal .result) (later (passed .before)) (passed .if1 .left) in
-    let n = counted (passed .before .before .before) in
-    let h = z .below in
-    (z .thread, (y .words, (omega arith, omega arith)))
+    let count = passed .before .before .before .count-records .result in
+    let room = commit-room (a .state) (a .thread) (a .supply) (a .home .now) (a .working .now) (a .log .now) count (allowed passed) in (
+      known-thread (a .state) (a .thread) (a .supply) (a .home .now) (a .working .now) (a .log .now) count (allowed passed),
+      (y .words, (y .undos, omega (arith, room .numbered (y .tail), allowed passed .records))),
+    )
 
 same-length : tie.Need-same-length
 same-length c = search needs

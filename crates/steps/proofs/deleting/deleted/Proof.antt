@@ -1,18 +1,23 @@
 -- `deleted` meets its contract: it is refused, cut, or moves the head on.
-use mathlib.Core.Path.{_≡_, refl, sym, _∙_}
+use mathlib.Core.Path.{_≡_, refl, ap, _∙_}
 use native.Mathlib.Omega.{arith}
+use borrow.Author.Needs.{needs}
+use Rattle.parts.specs.declared.Verdict.{Verdict}
 use Rattle.model.specs.Machine.{Memory}
 use Rattle.model.specs.Refusals.{numberOf}
+use Rattle.model.specs.Steps.{deleteRows, verdictRows}
+use Rattle.model.specs.Step.{deleteOldest}
+use Rattle.model.proofs.Outcomes.{refused-own}
 use Rattle.state.specs.declared.Fields.{Fields}
 use Rattle.state.specs.View.{view, memory}
-use Rattle.steps.proofs.DeleteStep.{allRows, number-own, delete-refused, fits-all, delete-cut, delete-done}
-use borrow.Author.Needs.{needs}
+use Rattle.steps.proofs.Outcome.{common-fit}
+use Rattle.steps.proofs.DeleteStep.{headMoved, delete-cut, delete-done}
 use Rattle.steps.proofs.deleting.deleted.Statement.{statement}
 use Rattle.steps.proofs.deleting.deleted.Tie as tie
 
--- the beginning, before the delete's own rows are looked at
-abbrev start : tie.After-delete-refusal → tie.Start
-start c = c .before .before .before .before .before .before .before
+-- the beginning, before the verdict
+abbrev start : tie.After-refusal → tie.Start
+start c = c .before .before .before .before .before .before .before .before
 
 -- the state and the buffers
 abbrev taken : tie.Start → Fields
@@ -21,15 +26,18 @@ taken s = s .args .state
 abbrev lent : tie.Start → Memory
 lent s = memory (s .args .home .now) (s .args .working .now) (s .args .log .now)
 
-delete-refusal-requires : tie.Need-delete-refusal-requires
-delete-refusal-requires c κs = search needs
+oldest-verdict-requires : tie.Need-oldest-verdict-requires
+oldest-verdict-requires c κs = search needs
 
--- the number is that of the delete's own rows
-number : (c : tie.After-delete-refusal) → c .delete-refusal .result ≡ numberOf (allRows (view (taken (start c))) (lent (start c)))
+refusal-requires : tie.Need-refusal-requires
+refusal-requires c κs = search needs
+
+-- the number is that of the verdict's rows
+number : (c : tie.After-refusal) → c .refusal .result ≡ numberOf (deleteRows (view (taken (start c))) (lent (start c)))
 number c =
     let s = start c in
-    number-own (view (taken s)) (lent s) (c .delete-refusal .result) (s .pre)
-    (c .delete-refusal .ensures (taken s) (lent s) refl refl refl refl refl)
+    c .refusal .ensures
+    ∙ ap (λ (v : Verdict). numberOf (verdictRows v)) (c .before .oldest-verdict .ensures (taken s) (lent s) refl refl refl refl refl)
 
 refused-requires : tie.Need-refused-requires
 refused-requires c κs = search needs
@@ -39,21 +47,16 @@ same-length c = search needs
 
 returns : tie.Need-returns
 returns c =
-    let judged = c .before .before in
-    let s = start judged in
+    let d = c .before .before in
+    let s = start d in
     rw (c .refused .ensures)
-    (delete-refused (s .args .supply) (view (taken s)) (lent s) (judged .delete-refusal .result) (number judged) (c .before .if1 .taken))
-
--- no row applies where the delete goes on
-zero : (c : tie.Else1) → 0 ≡ numberOf (allRows (view (taken (start (c .before)))) (lent (start (c .before))))
-zero c = sym (c .if1 .left) ∙ number (c .before)
+    (refused-own deleteOldest (s .args .supply) (view (taken s)) (lent s) (s .pre) (d .refusal .result) (number d) (c .before .if1 .taken) refl)
 
 add-head : tie.Need-add-head
 add-head c =
     let s = start (c .before .before) in
-    let f = fits-all (s .args .supply) (view (taken s)) (lent s) (zero (c .before)) in
-    let k = f .clauses in
-    omega arith
+    let f = common-fit (view (taken s)) (lent s) (s .pre) in
+    omega (arith, f .clauses .head)
 
 set-head-requires : tie.Need-set-head-requires
 set-head-requires c κs = search needs
@@ -69,39 +72,30 @@ same-length-3 c = search needs
 
 returns-2 : tie.Need-returns-2
 returns-2 c =
-    let passed = c .before .before .before .before .before .before .before .before .before .before in
-    let s = start (passed .before) in
+    let d = c .before .before .before .before .before .before .before .before .before .before in
+    let s = start (d .before) in
     let out = c .before .before .cut in
-    delete-cut (s .args .supply) (view (taken s)) (lent s) (zero passed) _
-    (c .before .before .before .before .if2 .taken)
-    (out .ensures .0 .0)
-    (out .ensures .0 .1 .0)
-    (out .ensures .0 .1 .1)
-    refl
-    (out .ensures .1)
-    (c .before .before .before .before .before .before .before .set-head .ensures .1)
+    delete-cut (s .args .supply) (view (taken s)) (lent s) (s .pre) (d .before .refusal .result) (number (d .before)) (d .if1 .left) _
+    (c .before .before .before .before .before .before .before .set-head .ensures .1) (out .result) _ (c .before .before .before .before .if2 .taken)
+    (out .ensures .0) (out .ensures .1)
 
 same-length-4 : tie.Need-same-length-4
 same-length-4 c = search needs
 
 returns-3 : tie.Need-returns-3
 returns-3 c =
-    let passed = c .before .before .before .before .before .before in
-    let s = start (passed .before) in
+    let d = c .before .before .before .before .before .before in
+    let s = start (d .before) in
     let moved = c .before .before .before .set-head in
-    delete-done (s .args .supply) (view (taken s)) (lent s) (zero passed) _ (c .if2 .left)
-    refl
-    (moved .ensures .0)
-    refl
-    refl
-    refl
-    (moved .ensures .1)
+    delete-done (s .args .supply) (view (taken s)) (lent s) (s .pre) (d .before .refusal .result) (number (d .before)) (d .if1 .left) _
+    (moved .ensures .1) (record { answer = 0; left = moved .result; state = headMoved (taken s) }) (c .if2 .left) refl (moved .ensures .0) refl
 
 pub deleted-spec : {M : Type 1} → statement M
 deleted-spec =
     tie.close
     (tie.spec
-    delete-refusal-requires
+    oldest-verdict-requires
+    refusal-requires
     refused-requires
     same-length
     returns

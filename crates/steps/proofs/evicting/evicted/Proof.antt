@@ -1,6 +1,6 @@
 -- `evicting::evicted` meets its contract: refused, cut, or done.
 use Prim.Native.Nat.{_+_, _-_, _≤_, _<_}
-use mathlib.Core.Path.{_≡_, sym, ap, _∙_}
+use mathlib.Core.Path.{_≡_, refl, sym, ap, _∙_}
 use mathlib.Core.Logic.{⊎-elim}
 use native.Mathlib.Omega.{arith}
 use lib.ListN.{getD, set}
@@ -8,14 +8,16 @@ use lib.Seq.{set-getD}
 use Rattle.parts.proofs.FirstLines.{WholeLines}
 use Rattle.model.specs.Machine.{Memory}
 use Rattle.model.specs.Refusals.{numberOf}
-use Rattle.model.specs.Steps.{lacking}
+use Rattle.model.specs.Steps.{lacking, evictRows}
+use Rattle.model.specs.Step.{evict}
+use Rattle.model.proofs.Outcomes.{refused-own}
 use Rattle.model.proofs.Fit.{Fit}
 use Rattle.logging.proofs.Guards.{redos-appended}
 use Rattle.state.specs.View.{view, memory}
+use Rattle.steps.proofs.Outcome.{common-fit}
 use Rattle.steps.proofs.LineRows.{LineFit}
-use Rattle.steps.proofs.Refused.{common-fit}
 use Rattle.steps.proofs.LoggingOldest.{WholeRedos}
-use Rattle.steps.proofs.Eviction.{few-wait, lacking-by, entries-added, entries-none, rows, evict-number, evict-refused, evict-fit, evict-cut, evict-done}
+use Rattle.steps.proofs.Eviction.{few-wait, lacking-by, entries-added, entries-none, evict-number, evict-fit, evict-cut, evict-done}
 use borrow.Author.Needs.{needs}
 use Rattle.steps.proofs.evicting.evicted.Statement.{statement}
 use Rattle.steps.proofs.evicting.evicted.Tie as tie
@@ -46,13 +48,14 @@ counted c = c .before .before .before .before
 -- the number that was found is that of the step's rows
 number : (c : tie.After-line-refusal)
     → let s = start (counted c) in
-    c .line-refusal .result ≡ numberOf (rows (s .args .line) (s .args .supply) (s .args .t1) (lent s))
+    c .line-refusal .result ≡ numberOf (evictRows (view (s .args .t1)) (lent s) (s .args .line))
 number c =
     let s = start (counted c) in
     let count = counted c .lacking in
     let room = c .before .before .before .no-room in
-    evict-number (s .args .line) (s .args .supply) (s .args .t1) (lent s) (count .result) (room .result) (c .line-refusal .result) (s .pre)
-    (count .ensures .1) (count .ensures .0) (room .ensures) (c .line-refusal .ensures)
+    evict-number (s .args .line) (s .args .t1) (lent s) (count .result) (room .result) (c .line-refusal .result) (s .pre)
+    (count .ensures .1) (count .ensures .0)
+    (room .ensures (view (s .args .t1)) (lent s) (record { slots = refl; head = refl; tail = refl })) (c .line-refusal .ensures)
 
 -- it is not refused
 module _ (c : tie.Else1) where
@@ -64,8 +67,8 @@ module _ (c : tie.Else1) where
 
   passed : LineFit (view (began .args .t1)) (lent began) (began .args .line)
   passed =
-      evict-fit (began .args .line) (began .args .supply) (began .args .t1) (lent began) (c .before .line-refusal .result) (number (c .before))
-      (c .if1 .left)
+      evict-fit (began .args .line) (began .args .t1) (lent began) (began .args .supply) (c .before .line-refusal .result) (began .pre)
+      (number (c .before)) (c .if1 .left)
 
   -- as many entries are logged as lack places
   lacks : taken .lacking .result ≡ lacking (view (began .args .t1)) (lent began) (began .args .line)
@@ -99,7 +102,8 @@ returns c =
     let found = c .before .before in
     let s = start (counted found) in
     rw (c .refused .ensures)
-    (evict-refused (s .args .line) (s .args .supply) (s .args .t1) (lent s) (found .line-refusal .result) (number found) (c .before .if1 .taken))
+    (refused-own (evict (s .args .line)) (s .args .supply) (view (s .args .t1)) (lent s) (s .pre) (found .line-refusal .result) (number found)
+    (c .before .if1 .taken) refl)
 
 append-redos-requires : tie.Need-append-redos-requires
 append-redos-requires c κs = search needs
@@ -132,7 +136,7 @@ returns-2 c =
     let a = s .args in
     let count = taken e .lacking in
     let log = logged .append-redos in
-    evict-cut (a .line) (a .supply) (a .t1) (lent s) (e .before .line-refusal .result) (number (e .before)) (e .if1 .left)
+    evict-cut (a .line) (a .t1) (lent s) (a .supply) (e .before .line-refusal .result) (s .pre) (number (e .before)) (e .if1 .left)
     (count .result) (lacks e) (count .ensures .0)
     (log .last .0) (log .result) (redos-appended (count .result) (a .t1 .redos) (few s) (log .ensures))
     (ended .cut .result) (ended .cut .last .0) (ended .before .before .if2 .taken) (ended .cut .ensures .0) (ended .cut .ensures .1)
@@ -201,7 +205,7 @@ returns-3 c =
     let f = passed e in
     let count = taken e .lacking in
     let states = read .states-at .ensures in
-    let done = evict-done (a .line) (a .supply) (a .t1) (lent s) (e .before .line-refusal .result) (number (e .before)) (e .if1 .left)
+    let done = evict-done (a .line) (a .t1) (lent s) (a .supply) (e .before .line-refusal .result) (s .pre) (number (e .before)) (e .if1 .left)
     (count .result) (lacks e) (count .ensures .0)
     (log .last .0) (log .result) (redos-appended (count .result) (a .t1 .redos) (few s) (log .ensures))
     (read .before .before .before .if2 .left) (whole-lines s) in

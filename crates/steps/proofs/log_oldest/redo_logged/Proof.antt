@@ -10,15 +10,15 @@ use Rattle.parts.specs.declared.RedoBuffer.{RedoBuffer}
 use Rattle.parts.specs.Waiting.{redosWaiting}
 use Rattle.parts.proofs.Waiting.{redoAt}
 use Rattle.model.specs.Machine.{Memory}
-use Rattle.model.specs.Plan.{append, planned}
-use Rattle.model.specs.Refusals.{unless, numberOf, common}
-use Rattle.model.specs.Steps.{redoRecord, redosLogged, logRedoPlan}
-use Rattle.model.specs.Step.{logRedo, planOf}
+use Rattle.model.specs.Refusals.{numberOf}
+use Rattle.model.specs.Steps.{redoRecord, redosLogged, oldestRows}
+use Rattle.model.specs.Step.{logRedo}
+use Rattle.model.proofs.Outcomes.{refused-own}
 use Rattle.logging.proofs.Guards.{redos-appended}
 use Rattle.state.specs.declared.Fields.{Fields}
 use Rattle.state.specs.View.{view, memory}
-use Rattle.steps.proofs.LoggingOldest.{WholeRedos, ownRows, oldest, count-oldest, redos-rest, oneLogged, in-log, Ready, ready}
-use Rattle.steps.proofs.LoggingOldest.{oldest-refused, oldest-cut, oldest-done}
+use Rattle.steps.proofs.Appending.{append-done, append-cut}
+use Rattle.steps.proofs.LoggingOldest.{WholeRedos, oldest, count-oldest, oneLogged, redos-rest, in-log, Known, known}
 use Rattle.steps.proofs.log_oldest.redo_logged.Statement.{statement}
 use Rattle.steps.proofs.log_oldest.redo_logged.Tie as tie
 
@@ -26,16 +26,12 @@ use Rattle.steps.proofs.log_oldest.redo_logged.Tie as tie
 abbrev records : Fields → List Record
 records s = oldest redoRecord (s .redos .len) (redoAt (s .redos))
 
--- the step's plan
-plan : (s : Fields) (mem : Memory) → planOf logRedo (view s) mem
-    ≡ unless (common (view s) mem ++ ownRows (view s) (records s))
-    (planned (map append (records s)) (redosLogged 1 (view s)) (mem .working))
-unfolding planOf logRedoPlan
-plan s mem = refl
-
--- where the step began, and where it was not refused
+-- where the step began, with the lent buffers, and where it was not refused
 abbrev start : tie.After-refusal → tie.Start
 start c = c .before .before .before .before
+
+abbrev lent : tie.Start → Memory
+lent c = memory (c .args .home .now) (c .args .working .now) (c .args .log .now)
 
 abbrev passed : tie.After-append-redos → tie.Else1
 passed c = c .before .before .before .before .before .before
@@ -45,38 +41,34 @@ whole-redos : (c : tie.Start) → WholeRedos (c .args .t1 .redos)
 whole-redos c = search needs
 
 -- the number is that of its own rows
-number : (c : tie.After-refusal) → let s = start c .args .t1 in c .refusal .result ≡ numberOf (ownRows (view s) (records s))
+number : (c : tie.After-refusal) → let s = start c .args .t1 in c .refusal .result ≡ numberOf (oldestRows (view s) (lent (start c)) (records s))
 number c =
     let s = start c .args .t1 in
-    c .refusal .ensures (view s) (records s) refl refl refl (count-oldest redoRecord (s .redos .len) (redoAt (s .redos)))
+    c .refusal .ensures (view s) (lent (start c)) (records s) (record { slots = refl; head = refl; tail = refl })
+    (count-oldest redoRecord (s .redos .len) (redoAt (s .redos)))
 
 -- what is known once it is not refused
-known : (c : tie.Else1) → let a = start (c .before) .args in
-    Ready (view (a .t1)) (memory (a .home .now) (a .working .now) (a .log .now)) 32 (a .t1 .redos .len) (records (a .t1))
-known c =
-    let a = start (c .before) .args in
-    let s = a .t1 in
-    ready redoRecord 32 (s .redos .len) (redoAt (s .redos)) (view s) (memory (a .home .now) (a .working .now) (a .log .now)) (c .before .refusal .result)
-    (λ d. omega (arith, d .redoSize))
-    (start (c .before) .pre) (number (c .before)) (c .if1 .left)
+passed-known : (c : tie.Else1) → let s = start (c .before) in Known (view (s .args .t1)) (lent s) 32 (s .args .t1 .redos .len) (records (s .args .t1))
+passed-known c =
+    let s = start (c .before) in
+    let b = s .args .t1 .redos in
+    known redoRecord 32 (b .len) (redoAt b) (view (s .args .t1)) (lent s) (c .before .refusal .result) (λ d. omega (arith, d .redoSize)) (s .pre)
+    (number (c .before)) (c .if1 .left)
 
 refusal-requires : tie.Need-refusal-requires
 refusal-requires c κs =
     let s = c .before .before .before in
-    in-log (view (s .args .t1)) (memory (s .args .home .now) (s .args .working .now) (s .args .log .now)) (s .pre)
+    in-log (view (s .args .t1)) (lent s) (s .pre)
 
 refused-requires : tie.Need-refused-requires
 refused-requires c κs = search needs
 
 returns : tie.Need-returns
 returns c =
-    let refused = c .before .before in
-    let a = start refused .args in
-    let s = a .t1 in
-    let mem = memory (a .home .now) (a .working .now) (a .log .now) in
+    let d = c .before .before in
+    let s = start d in
     rw (c .refused .ensures)
-    (oldest-refused logRedo redoRecord 32 (s .redos .len) (redoAt (s .redos)) (a .supply) (view s) mem (redosLogged 1 (view s)) (plan s mem)
-    (refused .refusal .result) (start refused .pre) (number refused) (c .before .if1 .taken) refl)
+    (refused-own logRedo (s .args .supply) (view (s .args .t1)) (lent s) (s .pre) (d .refusal .result) (number d) (c .before .if1 .taken) refl)
 
 append-redos-requires : tie.Need-append-redos-requires
 append-redos-requires c κs = search needs
@@ -95,15 +87,14 @@ returns-2 c =
     let ended = c .before .before in
     let appended = ended .before .before .before .before .before in
     let begun = passed appended in
-    let a = start (begun .before) .args in
-    let s = a .t1 in
-    let mem = memory (a .home .now) (a .working .now) (a .log .now) in
+    let s = start (begun .before) in
+    let m = view (s .args .t1) in
     let e = appended .append-redos in
-    let d = ended .cut in
-    oldest-cut logRedo redoRecord 32 (s .redos .len) (redoAt (s .redos)) (a .supply) (view s) mem (redosLogged 1 (view s)) (plan s mem)
-    (known begun) (d .result) (d .last .0)
-    (e .last .0) (e .result) (ended .before .before .if2 .taken) (redos-appended 1 (s .redos) (known begun .short) (e .ensures))
-    (d .ensures .0) (d .ensures .1)
+    let k = passed-known begun in
+    append-cut logRedo (s .args .supply) m (lent s) (s .pre) (begun .before .refusal .result) (number (begun .before)) (begun .if1 .left)
+    (records (s .args .t1)) (redosLogged 1 m) (lent s .working) refl (k .fits) (k .room) (ended .cut .result) (ended .cut .last .0) (e .last .0) (e .result)
+    (omega (arith, k .one, ended .before .before .if2 .taken)) (redos-appended 1 (s .args .t1 .redos) (k .short) (e .ensures))
+    (ended .cut .ensures .0) (ended .cut .ensures .1)
 
 close-threads-requires : tie.Need-close-threads-requires
 close-threads-requires c κs = search needs
@@ -116,12 +107,12 @@ close-values-requires c κs = search needs
 
 sub-state : tie.Need-sub-state
 sub-state c =
-    let k = known (passed (c .before .before .before .before .before .before .before .before .before)) in
+    let k = passed-known (passed (c .before .before .before .before .before .before .before .before .before)) in
     omega (arith, k .some)
 
 add-state : tie.Need-add-state
 add-state c =
-    let k = known (passed (c .before .before .before .before .before .before .before .before .before .before)) in
+    let k = passed-known (passed (c .before .before .before .before .before .before .before .before .before .before)) in
     omega (arith, k .fits .clauses .tail)
 
 same-length-3 : tie.Need-same-length-3
@@ -137,17 +128,17 @@ returns-3 c =
     let begun = passed appended in
     let a = start (begun .before) .args in
     let s = a .t1 in
-    let mem = memory (a .home .now) (a .working .now) (a .log .now) in
     let e = appended .append-redos in
-    let k = known begun in
+    let k = passed-known begun in
     let left : RedoBuffer = record { redos = values .last .0; len = s .redos .len - 1; threads = threads .last .0; words = words .last .0 } in
     let rest : redosWaiting left ≡ drop 1 (redosWaiting (s .redos)) =
     redos-rest 1 (threads .last .0) (words .last .0) (values .last .0) (s .redos) (whole-redos (start (begun .before))) (k .some) (k .short)
     (threads .ensures) (words .ensures) (values .ensures) in
     let next = oneLogged s (s .lines) (s .undos) left in
     let same : view next ≡ redosLogged 1 (view s) = rw (rest, k .one) in
-    oldest-done logRedo redoRecord 32 (s .redos .len) (redoAt (s .redos)) (a .supply) (view s) mem (redosLogged 1 (view s)) (plan s mem) k
-    (record { answer = 0; left = e .result; state = next }) (e .last .0) (taken .if2 .left)
+    append-done logRedo (a .supply) (view s) (lent (start (begun .before))) (start (begun .before) .pre) (begun .before .refusal .result)
+    (number (begun .before)) (begun .if1 .left) (records s) (redosLogged 1 (view s)) (a .working .now) refl (k .fits) (k .room)
+    (record { answer = 0; left = e .result; state = next }) (e .last .0) (omega (arith, k .one, taken .if2 .left))
     (redos-appended 1 (s .redos) (k .short) (e .ensures)) refl same
 
 pub redo-logged-spec : {M : Type 1} → statement M

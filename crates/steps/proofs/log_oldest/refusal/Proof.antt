@@ -5,7 +5,7 @@ use Rattle.steps.proofs.log_oldest.refusal.Statement.{statement}
 use Rattle.steps.proofs.log_oldest.refusal.Tie as tie
 
 returns : tie.Need-returns
-returns c m records slots head tail e = own-nothing m records (omega arith)
+returns c m mem records log e = own-nothing m mem records (omega arith)
 
 no-room-requires : tie.Need-no-room-requires
 no-room-requires c κs =
@@ -13,8 +13,7 @@ no-room-requires c κs =
     (p .0, (p .1 .0, (p .1 .1, omega arith)))
 
 returns-2 : tie.Need-returns-2
-returns-2 c m records slots head tail e =
-    own-room m records (c .no-room .result) (omega arith) (rw (slots, head, tail) (c .no-room .ensures))
+returns-2 c m mem records log e = own-room m mem records (c .no-room .result) (omega arith) (c .no-room .ensures m mem log)
 
 pub refusal-spec : {M : Type 1} → statement M
 refusal-spec = tie.close (tie.spec returns no-room-requires returns-2)

@@ -11,15 +11,15 @@ use Rattle.parts.specs.Waiting.{undosWaiting}
 use Rattle.parts.proofs.FirstLines.{WholeLines}
 use Rattle.parts.proofs.Waiting.{undoAt}
 use Rattle.model.specs.Machine.{Memory}
-use Rattle.model.specs.Plan.{append, planned}
-use Rattle.model.specs.Refusals.{unless, numberOf, common}
-use Rattle.model.specs.Steps.{undoRedoRecord, undosLogged, logUndoPlan}
-use Rattle.model.specs.Step.{logUndo, planOf}
+use Rattle.model.specs.Refusals.{numberOf}
+use Rattle.model.specs.Steps.{undoRedoRecord, undosLogged, oldestRows}
+use Rattle.model.specs.Step.{logUndo}
+use Rattle.model.proofs.Outcomes.{refused-own}
 use Rattle.logging.proofs.Guards.{undos-appended}
 use Rattle.state.specs.declared.Fields.{Fields}
 use Rattle.state.specs.View.{view, memory}
-use Rattle.steps.proofs.LoggingOldest.{WholeUndos, ownRows, oldest, count-oldest, undosGone, undos-gone, undos-rest, in-log, Ready, ready}
-use Rattle.steps.proofs.LoggingOldest.{oldest-refused, oldest-cut, oldest-done}
+use Rattle.steps.proofs.Appending.{append-done, append-cut}
+use Rattle.steps.proofs.LoggingOldest.{WholeUndos, oldest, count-oldest, undosGone, undos-gone, undos-rest, in-log, Known, known}
 use Rattle.steps.proofs.log_oldest.undo_logged.Statement.{statement}
 use Rattle.steps.proofs.log_oldest.undo_logged.Tie as tie
 
@@ -27,16 +27,12 @@ use Rattle.steps.proofs.log_oldest.undo_logged.Tie as tie
 abbrev records : Fields → List Record
 records s = oldest undoRedoRecord (s .undos .len) (undoAt (s .undos))
 
--- the step's plan
-plan : (s : Fields) (mem : Memory) → planOf logUndo (view s) mem
-    ≡ unless (common (view s) mem ++ ownRows (view s) (records s))
-    (planned (map append (records s)) (undosLogged 1 (view s)) (mem .working))
-unfolding planOf logUndoPlan
-plan s mem = refl
-
--- where the step began, and where it was not refused
+-- where the step began, with the lent buffers, and where it was not refused
 abbrev start : tie.After-refusal → tie.Start
 start c = c .before .before .before .before
+
+abbrev lent : tie.Start → Memory
+lent c = memory (c .args .home .now) (c .args .working .now) (c .args .log .now)
 
 abbrev passed : tie.After-append-undos → tie.Else1
 passed c = c .before .before .before .before .before .before .before
@@ -49,38 +45,34 @@ whole-undos : (c : tie.Start) → WholeUndos (c .args .t1 .undos)
 whole-undos c = search needs
 
 -- the number is that of its own rows
-number : (c : tie.After-refusal) → let s = start c .args .t1 in c .refusal .result ≡ numberOf (ownRows (view s) (records s))
+number : (c : tie.After-refusal) → let s = start c .args .t1 in c .refusal .result ≡ numberOf (oldestRows (view s) (lent (start c)) (records s))
 number c =
     let s = start c .args .t1 in
-    c .refusal .ensures (view s) (records s) refl refl refl (count-oldest undoRedoRecord (s .undos .len) (undoAt (s .undos)))
+    c .refusal .ensures (view s) (lent (start c)) (records s) (record { slots = refl; head = refl; tail = refl })
+    (count-oldest undoRedoRecord (s .undos .len) (undoAt (s .undos)))
 
 -- what is known once it is not refused
-known : (c : tie.Else1) → let a = start (c .before) .args in
-    Ready (view (a .t1)) (memory (a .home .now) (a .working .now) (a .log .now)) 16 (a .t1 .undos .len) (records (a .t1))
-known c =
-    let a = start (c .before) .args in
-    let s = a .t1 in
-    ready undoRedoRecord 16 (s .undos .len) (undoAt (s .undos)) (view s) (memory (a .home .now) (a .working .now) (a .log .now)) (c .before .refusal .result)
-    (λ d. omega (arith, d .undoSize))
-    (start (c .before) .pre) (number (c .before)) (c .if1 .left)
+passed-known : (c : tie.Else1) → let s = start (c .before) in Known (view (s .args .t1)) (lent s) 16 (s .args .t1 .undos .len) (records (s .args .t1))
+passed-known c =
+    let s = start (c .before) in
+    let b = s .args .t1 .undos in
+    known undoRedoRecord 16 (b .len) (undoAt b) (view (s .args .t1)) (lent s) (c .before .refusal .result) (λ d. omega (arith, d .undoSize)) (s .pre)
+    (number (c .before)) (c .if1 .left)
 
 refusal-requires : tie.Need-refusal-requires
 refusal-requires c κs =
     let s = c .before .before .before in
-    in-log (view (s .args .t1)) (memory (s .args .home .now) (s .args .working .now) (s .args .log .now)) (s .pre)
+    in-log (view (s .args .t1)) (lent s) (s .pre)
 
 refused-requires : tie.Need-refused-requires
 refused-requires c κs = search needs
 
 returns : tie.Need-returns
 returns c =
-    let refused = c .before .before in
-    let a = start refused .args in
-    let s = a .t1 in
-    let mem = memory (a .home .now) (a .working .now) (a .log .now) in
+    let d = c .before .before in
+    let s = start d in
     rw (c .refused .ensures)
-    (oldest-refused logUndo undoRedoRecord 16 (s .undos .len) (undoAt (s .undos)) (a .supply) (view s) mem (undosLogged 1 (view s)) (plan s mem)
-    (refused .refusal .result) (start refused .pre) (number refused) (c .before .if1 .taken) refl)
+    (refused-own logUndo (s .args .supply) (view (s .args .t1)) (lent s) (s .pre) (d .refusal .result) (number d) (c .before .if1 .taken) refl)
 
 append-undos-requires : tie.Need-append-undos-requires
 append-undos-requires c κs = search needs
@@ -99,15 +91,14 @@ returns-2 c =
     let ended = c .before .before in
     let appended = ended .before .before .before .before .before in
     let begun = passed appended in
-    let a = start (begun .before) .args in
-    let s = a .t1 in
-    let mem = memory (a .home .now) (a .working .now) (a .log .now) in
+    let s = start (begun .before) in
+    let m = view (s .args .t1) in
     let e = appended .append-undos in
-    let d = ended .cut in
-    oldest-cut logUndo undoRedoRecord 16 (s .undos .len) (undoAt (s .undos)) (a .supply) (view s) mem (undosLogged 1 (view s)) (plan s mem)
-    (known begun) (d .result) (d .last .0)
-    (e .last .0) (e .result) (ended .before .before .if2 .taken) (undos-appended 1 (s .undos) (known begun .short) (e .ensures))
-    (d .ensures .0) (d .ensures .1)
+    let k = passed-known begun in
+    append-cut logUndo (s .args .supply) m (lent s) (s .pre) (begun .before .refusal .result) (number (begun .before)) (begun .if1 .left)
+    (records (s .args .t1)) (undosLogged 1 m) (lent s .working) refl (k .fits) (k .room) (ended .cut .result) (ended .cut .last .0) (e .last .0) (e .result)
+    (omega (arith, k .one, ended .before .before .if2 .taken)) (undos-appended 1 (s .args .t1 .undos) (k .short) (e .ensures))
+    (ended .cut .ensures .0) (ended .cut .ensures .1)
 
 mark-logged-requires : tie.Need-mark-logged-requires
 mark-logged-requires c κs = search needs
@@ -127,13 +118,13 @@ close-values-requires-2 c κs = search needs
 sub-state : tie.Need-sub-state
 sub-state c =
     let taken = c .before .before .before .before .before .before .before .before .before .before .before .before in
-    let k = known (passed (taken .before .before .before)) in
+    let k = passed-known (passed (taken .before .before .before)) in
     omega (arith, k .some)
 
 add-state : tie.Need-add-state
 add-state c =
     let taken = c .before .before .before .before .before .before .before .before .before .before .before .before .before in
-    let k = known (passed (taken .before .before .before)) in
+    let k = passed-known (passed (taken .before .before .before)) in
     omega (arith, k .fits .clauses .tail)
 
 same-length-3 : tie.Need-same-length-3
@@ -152,9 +143,8 @@ returns-3 c =
     let b = start (begun .before) in
     let a = b .args in
     let s = a .t1 in
-    let mem = memory (a .home .now) (a .working .now) (a .log .now) in
     let e = appended .append-undos in
-    let k = known begun in
+    let k = passed-known begun in
     let left : UndoBuffer = record {
       undos = undos .last .0;
       redos = redos .last .0;
@@ -169,8 +159,9 @@ returns-3 c =
     let next = undosGone s 1 (marked .last .0) left in
     let same : view next ≡ undosLogged 1 (view s) =
     undos-gone s 1 (marked .last .0) left (whole-lines b) places (k .some) (k .short) (k .narrow) (marked .ensures (whole-lines b .states) places) rest in
-    oldest-done logUndo undoRedoRecord 16 (s .undos .len) (undoAt (s .undos)) (a .supply) (view s) mem (undosLogged 1 (view s)) (plan s mem) k
-    (record { answer = 0; left = e .result; state = next }) (e .last .0) (taken .if2 .left)
+    append-done logUndo (a .supply) (view s) (lent (start (begun .before))) (start (begun .before) .pre) (begun .before .refusal .result)
+    (number (begun .before)) (begun .if1 .left) (records s) (undosLogged 1 (view s)) (a .working .now) refl (k .fits) (k .room)
+    (record { answer = 0; left = e .result; state = next }) (e .last .0) (omega (arith, k .one, taken .if2 .left))
     (undos-appended 1 (s .undos) (k .short) (e .ensures)) refl same
 
 pub undo-logged-spec : {M : Type 1} → statement M

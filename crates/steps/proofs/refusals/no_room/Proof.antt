@@ -1,5 +1,6 @@
 -- `refusals::no_room` meets its contract, by what `refuse` ensures.
 use borrow.Author.Needs.{needs}
+use Rattle.model.specs.Refusals.{numberOf, noRoom}
 use Rattle.steps.proofs.refusals.no_room.Statement.{statement}
 use Rattle.steps.proofs.refusals.no_room.Tie as tie
 
@@ -19,7 +20,8 @@ refuse-requires-2 : tie.Need-refuse-requires-2
 refuse-requires-2 c κs = search needs
 
 returns : tie.Need-returns
-returns c = simp (c .refuse2 .ensures, c .before .refuse .ensures)
+unfolding numberOf noRoom
+returns c m mem log = simp (c .refuse2 .ensures, c .before .refuse .ensures, log .slots, log .head, log .tail)
 
 pub no-room-spec : {M : Type 1} → statement M
 no-room-spec =

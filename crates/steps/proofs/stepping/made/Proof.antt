@@ -3,8 +3,8 @@ use mathlib.Core.Path.{_≡_, subst}
 use borrow.Author.Needs.{needs}
 use Rattle.model.specs.Refusals.{numberOf}
 use Rattle.state.specs.View.{view, memory}
-use Rattle.steps.specs.Steps.{stepOf, early, TakenOut}
-use Rattle.steps.specs.declared.Step.{Step}
+use Rattle.model.specs.Step.{Step, firstRows}
+use Rattle.steps.specs.Steps.{TakenOut}
 use Rattle.recovery.proofs.RecoverStep.{recover-any}
 use Rattle.steps.proofs.stepping.made.Statement.{statement}
 use Rattle.steps.proofs.stepping.made.Tie as tie
@@ -12,10 +12,10 @@ use Rattle.steps.proofs.stepping.made.Tie as tie
 -- no early row refuses the step, whichever it is
 passed : (c : tie.After-slice-known3) (s : Step)
     → let a = c .before .before .before .args in
-    a .step ≡ s → numberOf (early (stepOf s) (view (a .state)) (memory (a .home .now) (a .working .now) (a .log .now))) ≡ 0
+    a .step ≡ s → numberOf (firstRows s (view (a .state)) (memory (a .home .now) (a .working .now) (a .log .now))) ≡ 0
 passed c s e =
     let a = c .before .before .before .args in
-    subst (λ (x : Step). numberOf (early (stepOf x) (view (a .state)) (memory (a .home .now) (a .working .now) (a .log .now))) ≡ 0) e
+    subst (λ (x : Step). numberOf (firstRows x (view (a .state)) (memory (a .home .now) (a .working .now) (a .log .now))) ≡ 0) e
     (c .before .before .before .pre .1)
 
 -- the lent arrays are those of the state

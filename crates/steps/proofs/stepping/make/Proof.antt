@@ -7,8 +7,8 @@ use Rattle.model.specs.Machine.{Memory}
 use Rattle.model.specs.Consistent.{consistent}
 use Rattle.model.specs.Refusals.{numberOf}
 use Rattle.state.specs.View.{view, memory}
-use Rattle.steps.specs.Steps.{stepOf, takesState, early}
-use Rattle.steps.proofs.Early.{early-refused}
+use Rattle.model.specs.Step.{Step, takesState, firstRows}
+use Rattle.model.proofs.Outcomes.{refused-first}
 use Rattle.steps.proofs.Sound.{sound-here}
 use Rattle.steps.proofs.stepping.make.Statement.{statement}
 use Rattle.steps.proofs.stepping.make.Tie as tie
@@ -24,7 +24,7 @@ abbrev start : tie.Joined1 → tie.Start
 start c = c .before .before .before .before .before .before .before .before .before .before .before .before
 
 -- a state that the step takes is consistent, or it isn't
-sound : (c : tie.Joined1) → takesState (stepOf (start c .args .step)) ≡ true → c .if1 .sound ≡ consistent (view (start c .args .state))
+sound : (c : tie.Joined1) → takesState (start c .args .step) ≡ true → c .if1 .sound ≡ consistent (view (start c .args .state))
 sound c takes =
     ⊎-elim (λ w. w .9 ∙ w .8 .ensures ∙ sound-here (start c .args .state))
     (λ w. absurd (false≢true (sym (w .0 .left) ∙ c .before .takes-state .ensures ∙ takes))) (c .if1 .came)
@@ -40,7 +40,7 @@ module _ (c : tie.After-unfit) where
   abbrev lent : Memory
   lent = memory (begun .args .home .now) (begun .args .working .now) (begun .args .log .now)
 
-  number : c .unfit .result ≡ numberOf (early (stepOf (begun .args .step)) (view (begun .args .state)) lent)
+  number : c .unfit .result ≡ numberOf (firstRows (begun .args .step) (view (begun .args .state)) lent)
   number = c .unfit .ensures
 
 refused-requires : tie.Need-refused-requires
@@ -60,7 +60,7 @@ returns c =
     let d = c .before .before in
     let a = begun d .args in
     rw (c .refused .ensures)
-    (sym (early-refused (stepOf (a .step)) (a .supply) (view (a .state)) (lent d) (d .unfit .result) (number d) (c .before .if2 .taken)))
+    (refused-first (a .step) (a .supply) (view (a .state)) (lent d) (d .unfit .result) (number d) (c .before .if2 .taken))
 
 made-requires : tie.Need-made-requires
 made-requires c κs =

@@ -8,10 +8,8 @@ use types.Run.{OneOf, miss}
 use Rattle.model.specs.Machine.{Machine, Memory}
 use Rattle.model.specs.Refusals.{numberOf, common}
 use Rattle.state.specs.View.{view}
-use Rattle.steps.specs.Steps.{stepOf, early}
-use Rattle.steps.specs.declared.Step.{Step}
-use Rattle.steps.specs.declared.Step.the-variants.{Begin, Store, LogUndo, LogRedo, Evict, WriteBack, Commit, DeleteOldest, Recover}
-use Rattle.steps.proofs.Step.{the-type}
+use Rattle.model.specs.Step.{Step, begin, store, logUndo, logRedo, evict, writeBack, commit, deleteOldest, recover, firstRows}
+use Rattle.parts.proofs.Step.{the-type}
 use Rattle.steps.proofs.TakesState.{takes-one}
 use Rattle.steps.proofs.stepping.unfit.Statement.{statement}
 use Rattle.steps.proofs.stepping.unfit.Tie as tie
@@ -21,16 +19,16 @@ abbrev others : List ℕ
 others = 1 ∷ 2 ∷ 3 ∷ 4 ∷ 5 ∷ 6 ∷ 7 ∷ []
 
 -- these steps have the common rows
-common-early : (s : Step) (m : Machine) (mem : Memory) → OneOf others (tagOf the-type s) → early (stepOf s) m mem ≡ common m mem
-common-early (Begin t) m mem one = absurd (miss others 0 tt one)
-common-early (Store t w v) m mem one = refl
-common-early LogUndo m mem one = refl
-common-early LogRedo m mem one = refl
-common-early (Evict i) m mem one = refl
-common-early (WriteBack i) m mem one = refl
-common-early (Commit t) m mem one = refl
-common-early DeleteOldest m mem one = refl
-common-early Recover m mem one = absurd (miss others 8 tt one)
+common-first : (s : Step) (m : Machine) (mem : Memory) → OneOf others (tagOf the-type s) → firstRows s m mem ≡ common m mem
+common-first (begin t) m mem one = absurd (miss others 0 tt one)
+common-first (store t w v) m mem one = refl
+common-first logUndo m mem one = refl
+common-first logRedo m mem one = refl
+common-first (evict i) m mem one = refl
+common-first (writeBack i) m mem one = refl
+common-first (commit t) m mem one = refl
+common-first deleteOldest m mem one = refl
+common-first recover m mem one = absurd (miss others 8 tt one)
 
 enum-told : tie.Need-enum-told
 enum-told c = search needs
@@ -62,7 +60,7 @@ returns-3 : tie.Need-returns-3
 returns-3 c =
     let start = c .before .before .before .before .before in
     let one = c .before .match .keys3 in
-    rw (common-early _ (view (start .args .state)) _ one)
+    rw (common-first _ (view (start .args .state)) _ one)
     (c .common .ensures (view (start .args .state)) refl refl refl refl
     (start .pre (takes-one others (start .args .step) (λ one. miss others 8 tt one) one)))
 

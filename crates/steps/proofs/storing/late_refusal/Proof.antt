@@ -1,5 +1,6 @@
--- `late_refusal` is the first of its numbers that applies. Assumes nothing.
+-- `late_refusal` is the first of its numbers that applies.
 use borrow.Author.Needs.{needs}
+use Rattle.model.specs.Refusals.{numberOf}
 use Rattle.steps.proofs.storing.late_refusal.Statement.{statement}
 use Rattle.steps.proofs.storing.late_refusal.Tie as tie
 
@@ -13,7 +14,8 @@ refuse-requires-2 : tie.Need-refuse-requires-2
 refuse-requires-2 c κs = search needs
 
 returns : tie.Need-returns
-returns c = simp (c .refuse2 .ensures, c .before .refuse .ensures, c .before .before .no-room .ensures)
+unfolding numberOf
+returns c m mem log = simp (c .refuse2 .ensures, c .before .refuse .ensures, c .before .before .no-room .ensures m mem log)
 
 pub late-refusal-spec : {M : Type 1} → statement M
 late-refusal-spec = tie.close (tie.spec no-room-requires refuse-requires refuse-requires-2 returns)

@@ -1,4 +1,4 @@
--- `stored` hands back what the model's store gives. Assumes nothing.
+-- `stored` hands back what the model's store gives.
 use Prim.Native.Nat.{ℕ, _/_, _≤_}
 use mathlib.Core.Path.{_≡_, refl, sym, _∙_}
 use mathlib.Core.Bool.{Bool}
@@ -11,15 +11,15 @@ use lib.ListN.{getD}
 use Rattle.log.specs.declared.Record.{Record}
 use Rattle.model.specs.Machine.{Machine, Memory}
 use Rattle.model.specs.Refusals.{numberOf}
-use Rattle.model.specs.Steps.{storeLogs, undoRecords}
+use Rattle.model.specs.Steps.{storeLogs, storeRows, undoRecords}
+use Rattle.model.specs.Step.{store}
+use Rattle.model.proofs.Outcomes.{refused-own}
 use Rattle.logging.proofs.Appending.{Appended, appended-none, appended-length}
 use Rattle.logging.proofs.Guards.{undos-appended}
 use Rattle.state.specs.View.{view, memory}
 use Rattle.steps.specs.Steps.{TakenOut}
 use Rattle.steps.proofs.Filing.{logs-most, undos-length, redos-length}
-use Rattle.steps.proofs.Refused.{refused-then}
-use Rattle.steps.proofs.StoreRows.{placeRows, earlyRows, storeRows, late-number, place-refused, place-passed, late-decides, Known, known}
-use Rattle.steps.proofs.StoreRows.{store-refused, Allowed, allowed, store-done, store-cut}
+use Rattle.steps.proofs.StoreRows.{placeRows, place-refused, Known, known, late-number, store-done, store-cut}
 use Rattle.steps.proofs.storing.stored.Statement.{statement}
 use Rattle.steps.proofs.storing.stored.Tie as tie
 
@@ -37,34 +37,30 @@ refused-requires c κs = search needs
 abbrev begin : tie.After-early-refusal → tie.Start
 begin c = c .before .before .before .before
 
--- the number of the early rows is that of the rows on thread and word
+-- the number of the first rows, on thread and word
 early-here : (c : tie.After-early-refusal) → let a = begin c .args in
-    c .early-refusal .result ≡ numberOf (earlyRows (view (a .state)) (lent (begin c)) (a .thread) (a .word))
-early-here c =
-    let a = begin c .args in
-    c .early-refusal .ensures (view (a .state)) refl
-    ∙ refused-then (view (a .state)) (lent (begin c)) (begin c .pre .1) (placeRows (view (a .state)) (a .thread) (a .word))
+    c .early-refusal .result ≡ numberOf (placeRows (view (a .state)) (a .thread) (a .word))
+early-here c = c .early-refusal .ensures (view (begin c .args .state)) refl
 
 returns : tie.Need-returns
 returns c =
-    let s = begin (c .before .before) in
+    let d = c .before .before in
+    let s = begin d in
     let a = s .args in
-    let early = c .before .before .early-refusal in
     rw (c .refused .ensures)
-    (store-refused (a .state) (lent s) (a .supply) (a .thread) (a .word) (a .value) (early .result)
-    (place-refused (view (a .state)) (lent s) (a .thread) (a .word) (a .value) (early .result) (early-here (c .before .before)) (c .before .if1 .taken))
-    (c .before .if1 .taken))
+    (refused-own (store (a .thread) (a .word) (a .value)) (a .supply) (view (a .state)) (lent s) (s .pre .1) (d .early-refusal .result)
+    (place-refused (a .state) (lent s) (a .thread) (a .word) (a .value) (s .pre .1) (d .early-refusal .result) (early-here d) (c .before .if1 .taken))
+    (c .before .if1 .taken) refl)
 
--- no early row refuses the store
+-- none of them refuses the store
 module _ (c : tie.Else1) where
   abbrev start : tie.Start
   start = begin (c .before)
 
-  known-here : Known (view (start .args .state)) (lent start) (start .args .thread) (start .args .word)
+  known-here : Known (start .args .state) (lent start) (start .args .thread) (start .args .word) (start .args .value)
   known-here =
-      known (view (start .args .state)) (lent start) (start .args .thread) (start .args .word)
-      (place-passed (view (start .args .state)) (lent start) (start .args .thread) (start .args .word) (start .args .value)
-      (c .before .early-refusal .result) (early-here (c .before)) (c .if1 .left))
+      known (start .args .state) (lent start) (start .args .thread) (start .args .word) (start .args .value) (start .pre .1)
+      (c .before .early-refusal .result) (early-here (c .before)) (c .if1 .left)
 
 cast-t23 : tie.Need-cast-t23
 cast-t23 c =
@@ -157,20 +153,19 @@ module _ (c : tie.After-late-refusal) where
       let word = k .word in
       let whole = k .width .whole in
       let taken = c .before .before .before .held-by-another in
-      late-number (a .state) (a .thread) (a .word) (same (c .before)) (taken .result)
-      (c .before .logs-first .result) (c .late-refusal .result) (count-here (c .before))
+      late-number (a .state) (lent begun) (a .thread) (a .word) (a .value) (begun .pre .1) (here .before .early-refusal .result)
+      (early-here (here .before)) (here .if1 .left) (a .opened .now) (taken .result) (c .before .logs-first .result) (c .late-refusal .result)
+      (out (c .before) .isOpened) (count-here (c .before))
       (taken .ensures (a .state .lines) (sym (out (c .before) .isHolders)) (a .state .words / 8) (omega arith))
-      (rw (out (c .before) .isOpened) at (c .late-refusal .ensures))
-      ∙ late-decides (view (a .state)) (lent begun) (a .thread) (a .word) (a .value) (here .before .early-refusal .result)
-      (early-here (here .before)) (here .if1 .left)
+      (c .late-refusal .ensures (view (a .state)) (lent begun) (record { slots = refl; head = refl; tail = refl }))
 
 returns-2 : tie.Need-returns-2
 returns-2 c =
     let late = c .before .before in
     let a = begun late .args in
     rw (c .refused2 .ensures)
-    (store-refused (a .state) (lent (begun late)) (a .supply) (a .thread) (a .word) (a .value)
-    (late .late-refusal .result) (late-here late) (c .before .if2 .taken))
+    (refused-own (store (a .thread) (a .word) (a .value)) (a .supply) (view (a .state)) (lent (begun late)) (begun late .pre .1)
+    (late .late-refusal .result) (late-here late) (c .before .if2 .taken) refl)
 
 append-oldest-requires : tie.Need-append-oldest-requires
 append-oldest-requires c κs = search needs
@@ -195,16 +190,14 @@ module _ (c : tie.Joined3) where
   abbrev count : tie.After-logs-first
   count = late .before .before
 
-  allowed-here : Allowed (entry .args .state) (lent entry) (entry .args .supply) (entry .args .thread) (entry .args .word) (entry .args .value)
-  allowed-here =
-      allowed (entry .args .state) (lent entry) (entry .args .supply) (entry .args .thread) (entry .args .word) (entry .args .value)
-      (sym (late-here (late .before)) ∙ late .if2 .left)
+  known-entry : Known (entry .args .state) (lent entry) (entry .args .thread) (entry .args .word) (entry .args .value)
+  known-entry = known-here (passed (late .before .before))
 
   logged : Appended (entry .args .supply) (lent entry .log) (entry .args .state .tail)
       (undoRecords (count .logs-first .result) (view (entry .args .state))) (c .if3 .log) (c .if3 .left)
   logged =
       let undos = entry .args .state .undos in
-      let few : undos .len ≤ 16 = omega (arith, undos-length undos, allowed-here .known .fits .clauses .undoSize) in
+      let few : undos .len ≤ 16 = omega (arith, undos-length undos, known-entry .fits .clauses .undoSize) in
       ⊎-elim (λ w. appended-as _ _ _ _ (w .6) (w .7) (undos-appended (count .logs-first .result) undos few (w .3 .ensures)))
       (λ w.
       appended-as _ _ _ _ (w .1) (w .2)
@@ -231,8 +224,9 @@ returns-3 c =
     let a = entry here .args in
     let made = here .if3 in
     let cleared = c .before .before .cut in
-    store-cut (a .state) (lent (entry here)) (a .supply) (a .thread) (a .word) (a .value) (allowed-here here)
-    (count here .logs-first .result) (count-here (count here)) (cleared .result) (made .log) (made .left) (logged here)
+    store-cut (a .state) (lent (entry here)) (a .thread) (a .word) (a .value) (a .supply) (late here .before .late-refusal .result) (entry here .pre .1)
+    (late-here (late here .before)) (late here .if2 .left) (count here .logs-first .result) (count-here (count here)) (cleared .result) (made .log)
+    (made .left) (logged here)
     (cleared .last .0) (c .before .before .before .before .if4 .taken) (cleared .ensures .0) (cleared .ensures .1)
 
 mul-working : tie.Need-mul-working
@@ -240,14 +234,14 @@ mul-working c = search needs
 
 slice-write-working : tie.Need-slice-write-working
 slice-write-working c =
-    let k = allowed-here (c .before) .known in
+    let k = known-entry (c .before) in
     let word = k .word in
     let length = k .fits .working in
     omega arith
 
 next-state-requires : tie.Need-next-state-requires
 next-state-requires c κs =
-    let k = allowed-here (c .before) .known in
+    let k = known-entry (c .before) in
     let s = entry (c .before) .args .state in
     let undos = undos-length (s .undos) in
     let redos = redos-length (s .redos) in
@@ -269,8 +263,8 @@ returns-4 c =
     let here = c .before .before in
     let a = entry here .args in
     let made = here .if3 in
-    store-done (a .state) (lent (entry here)) (a .supply) (a .thread) (a .word) (a .value) (allowed-here here)
-    (count here .logs-first .result) (count-here (count here))
+    store-done (a .state) (lent (entry here)) (a .thread) (a .word) (a .value) (a .supply) (late here .before .late-refusal .result) (entry here .pre .1)
+    (late-here (late here .before)) (late here .if2 .left) (count here .logs-first .result) (count-here (count here))
     (record { answer = 0; left = made .left; state = c .next-state .result })
     (made .log) (made .left) (logged here)
     (c .before .if4 .left) refl refl (c .next-state .ensures (lent (entry here)) refl)

@@ -6,9 +6,13 @@ use native.Mathlib.Omega.{arith}
 use Rattle.parts.proofs.FirstLines.{WholeLines}
 use Rattle.model.specs.Machine.{Memory}
 use Rattle.model.specs.Refusals.{numberOf}
+use Rattle.model.specs.Steps.{lineRows}
+use Rattle.model.specs.Step.{writeBack}
+use Rattle.model.proofs.Outcomes.{refused-own}
 use Rattle.state.specs.View.{view, memory}
-use Rattle.steps.proofs.LineRows.{lineRows, lineNumber, line-number}
-use Rattle.steps.proofs.WritingBack.{write-refused, write-fit, write-cut, write-done}
+use Rattle.steps.proofs.Outcome.{common-narrow}
+use Rattle.steps.proofs.LineRows.{lineNumber, line-number}
+use Rattle.steps.proofs.WritingBack.{write-fit, write-cut, write-done}
 use borrow.Author.Needs.{needs}
 use Rattle.steps.proofs.writing_back.written_back.Statement.{statement}
 use Rattle.steps.proofs.writing_back.written_back.Tie as tie
@@ -27,11 +31,11 @@ whole-lines : (c : tie.Start) → WholeLines (c .args .state .lines)
 whole-lines c = search needs
 
 -- the number that was found is that of the step's rows
-number : (c : tie.After-line-refusal) → c .line-refusal .result ≡ numberOf (lineRows (view (start c .args .state)) (lent (start c)) (start c .args .line) [])
+number : (c : tie.After-line-refusal) → c .line-refusal .result ≡ numberOf (lineRows (view (start c .args .state)) (start c .args .line))
 unfolding numberOf
 number c =
     let s = start c in
-    line-number (s .args .state) (lent s) (s .args .line) 0 (c .line-refusal .result) [] (s .pre .1) (λ _. refl)
+    line-number (s .args .state) (s .args .line) 0 (c .line-refusal .result) [] (common-narrow (view (s .args .state)) (lent s) (s .pre .1)) (λ _. refl)
     (c .line-refusal .ensures ∙ ap (λ (ss : List ℕ). lineNumber (s .args .state .words) ss (s .args .line) 0) (s .pre .0))
 
 line-refusal-requires : tie.Need-line-refusal-requires
@@ -45,7 +49,8 @@ returns c =
     let refused = c .before .before in
     let a = start refused .args in
     rw (c .refused .ensures)
-    (write-refused (a .line) (a .supply) (a .state) (lent (start refused)) (refused .line-refusal .result) (number refused) (c .before .if1 .taken))
+    (refused-own (writeBack (a .line)) (a .supply) (view (a .state)) (lent (start refused)) (start refused .pre .1) (refused .line-refusal .result)
+    (number refused) (c .before .if1 .taken) refl)
 
 store-line-requires : tie.Need-store-line-requires
 store-line-requires c κs = search needs
@@ -64,17 +69,20 @@ returns-2 c =
     let ended = c .before .before in
     let stored = ended .before .before .before .before .before in
     let began = passed stored in
-    let a = start (began .before) .args in
-    write-cut (a .line) (a .supply) (a .state) (lent (start (began .before))) (began .before .line-refusal .result) (number (began .before)) (began .if1 .left)
+    let s = start (began .before) in
+    let a = s .args in
+    write-cut (a .line) (a .supply) (a .state) (lent s) (s .pre .1) (began .before .line-refusal .result) (number (began .before)) (began .if1 .left)
     (stored .store-line .last .0) (stored .store-line .ensures .1)
     (ended .cut .result) (ended .cut .last .0) (ended .before .before .if2 .taken) (ended .cut .ensures .0) (ended .cut .ensures .1)
 
 put-flag-requires : tie.Need-put-flag-requires
 put-flag-requires c κs =
-    let began = passed (c .before .before .before .before .before) in
+    let stored = c .before .before .before .before .before in
+    let began = passed stored in
     let s = start (began .before) in
     let number = number (began .before) in
-    let f = write-fit (s .args .line) (s .args .supply) (s .args .state) (lent s) (began .before .line-refusal .result) number (began .if1 .left) in
+    let f = write-fit (s .args .line) (s .args .supply) (s .args .state) (lent s) (s .pre .1) (began .before .line-refusal .result) number (began .if1 .left)
+    _ (stored .store-line .ensures .1) in
     omega arith
 
 same-length-3 : tie.Need-same-length-3
@@ -90,7 +98,7 @@ returns-3 c =
     let began = passed stored in
     let s = start (began .before) in
     let a = s .args in
-    write-done (a .line) (a .supply) (a .state) (lent s) (began .before .line-refusal .result) (number (began .before)) (began .if1 .left)
+    write-done (a .line) (a .supply) (a .state) (lent s) (s .pre .1) (began .before .line-refusal .result) (number (began .before)) (began .if1 .left)
     (stored .store-line .last .0) (stored .store-line .ensures .1) (stored .store-line .result)
     (c .put-flag .last .0) (enough .if2 .left) (stored .store-line .ensures .0) (whole-lines s) (c .put-flag .ensures)
 

@@ -1,4 +1,4 @@
--- The numbers under which a delete is refused, by the rows of the log itself.
+-- The verdict on the oldest record, by the flags of the lines and by what is read.
 use Prim.Native.Nat.{ℕ, _+_, _-_, _/_, _≤_}
 use mathlib.Core.Path.{_≡_, sym, _∙_, ap}
 use mathlib.Core.Bool.{Bool, false, cond, _&&_}
@@ -15,11 +15,13 @@ use Rattle.log.specs.Region.{readBack, readFrom}
 use Rattle.log.proofs.Searching.{read-none}
 use Rattle.parts.specs.declared.Line.{Line}
 use Rattle.parts.specs.declared.Lines.{Lines}
+use Rattle.parts.specs.declared.Verdict.{Verdict}
+use Rattle.parts.specs.declared.Verdict.the-variants.{Nothing, Open, Needed, Spare}
 use Rattle.parts.specs.Lines.{lineAt, firstLines, freeLine}
 use Rattle.parts.proofs.Listed.{length-listed}
 use Rattle.model.specs.Machine.{Machine, Memory, lineOf, dirtyIn}
-use Rattle.model.specs.Refusals.{numberOf}
-use Rattle.model.specs.Steps.{isBad, isNeeded, deleteRows}
+use Rattle.model.specs.Readings.{records, closed}
+use Rattle.model.specs.Verdict.{judged, verdictOn, verdict}
 use Rattle.model.proofs.LinesInUse.{line-in-use}
 use Rattle.state.specs.declared.Fields.{Fields}
 use Rattle.state.specs.View.{view}
@@ -50,10 +52,16 @@ pub word-flag : (s : Fields) (words w : ℕ) (flags : List Bool) (b : Bool) → 
 unfolding dirtyIn
 word-flag s words w flags b e f t = rw (← t, ← e, ← f) (flag-of (s .words / 8) (s .lines) (w / 8))
 
--- whether a record is needed, by what was read
-pub needed-read : (m : Machine) (later : List Reading) (x : Reading) (r s : Record) (b : Bool) → x ≡ Good r → r ≡ s
-    → b ≡ isNeeded m (Good s) later → b ≡ isNeeded m x later
-needed-read m later x r s b e f g = g ∙ sym (ap (λ (y : Reading). isNeeded m y later) (e ∙ ap Good f))
+-- the verdict on a data record, by the code's two tests
+pub judged-by : (m : Machine) (t w : ℕ) (later : List Reading) (shut dirty : Bool) → shut ≡ closed t (records later)
+    → dirty ≡ dirtyIn (m .lines) w → cond shut (cond dirty Needed Spare) Open ≡ judged m t w later
+unfolding judged
+judged-by m t w later shut dirty e f = rw (← e, ← f)
+
+-- the verdict on what was read, by the record's type
+pub verdict-read : (m : Machine) (later : List Reading) (x : Reading) (r s : Record) (v : Verdict) → x ≡ Good r → r ≡ s
+    → v ≡ verdictOn m (Good s) later → v ≡ verdictOn m x later
+verdict-read m later x r s v e f g = g ∙ sym (ap (λ (y : Reading). verdictOn m y later) (e ∙ ap Good f))
 
 module _ (head tail words : ℕ) (log : List ℕ) where
   -- the records after the oldest
@@ -70,15 +78,11 @@ module _ (head tail words : ℕ) (log : List ℕ) where
   -- A state and buffers that have these.
   module _ (s : Fields) (mem : Memory) (h : s .head ≡ head) (t : s .tail ≡ tail) (w : s .words ≡ words) (g : mem .log ≡ log) where
     -- an empty log
-    pub refused-nothing : head ≡ tail → 12 ≡ numberOf (deleteRows (view s) mem)
-    unfolding numberOf
-    refused-nothing e = rw (eq-eqb (s .head) (s .tail) (h ∙ e ∙ sym t))
+    pub verdict-nothing : head ≡ tail → Nothing ≡ verdict (view s) mem
+    unfolding verdict
+    verdict-nothing e = rw (eq-eqb (s .head) (s .tail) (h ∙ e ∙ sym t))
 
     -- the oldest record
-    pub refused-oldest : (head ≡ tail → ⊥) → (a b : Bool) → isBad (readBack words log head) ≡ a → isNeeded (view s) (readBack words log head) later ≡ b
-        → cond a 14 (cond b 15 0) ≡ numberOf (deleteRows (view s) mem)
-    unfolding numberOf
-    refused-oldest ne a b e f =
-        let first : readBack (s .words) (mem .log) (s .head) ≡ readBack words log head = rw (h, w, g) in
-        let rest : readFrom (s .tail - (s .head + 1)) (s .words) (mem .log) (s .head + 1) ≡ later = rw (h, t, w, g) in
-        rw (ne-eqb (s .head) (s .tail) (λ z. ne (sym h ∙ z ∙ t)), first, rest, e, f)
+    pub verdict-oldest : (head ≡ tail → ⊥) → verdictOn (view s) (readBack words log head) later ≡ verdict (view s) mem
+    unfolding verdict
+    verdict-oldest ne = rw (ne-eqb (s .head) (s .tail) (λ z. ne (sym h ∙ z ∙ t)), h, t, w, g)

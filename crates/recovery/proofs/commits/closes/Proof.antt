@@ -1,8 +1,8 @@
--- `commits::is_commit_of` meets its contract: only the arm of a commit compares threads.
+-- `commits::closes` meets its contract: only the arm of a commit compares threads.
 use borrow.Author.Needs.{needs}
 use Rattle.recovery.proofs.ReadOn.{commit-read}
-use Rattle.recovery.proofs.commits.is_commit_of.Statement.{statement}
-use Rattle.recovery.proofs.commits.is_commit_of.Tie as tie
+use Rattle.recovery.proofs.commits.closes.Statement.{statement}
+use Rattle.recovery.proofs.commits.closes.Tie as tie
 
 enum-known-reading : tie.Need-enum-known-reading
 enum-known-reading c = search needs
@@ -31,8 +31,8 @@ returns-3 c = commit-read _ _ _ _ (c .before .before .before .before .reading .g
 returns-4 : tie.Need-returns-4
 returns-4 c = search needs
 
-pub is-commit-of-spec : {M : Type 1} → statement M
-is-commit-of-spec =
+pub closes-spec : {M : Type 1} → statement M
+closes-spec =
     tie.close
     (tie.spec
     enum-known-reading

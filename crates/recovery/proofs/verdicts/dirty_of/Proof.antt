@@ -1,13 +1,13 @@
--- `deleting::dirty_of` meets its contract: past the lines in use, and past the last flag, the default is read.
+-- `verdicts::dirty_of` meets its contract: past the lines in use, and past the last flag, the default is read.
 use Prim.Native.Nat.{_/_}
 use mathlib.Core.Bool.{true, false}
 use borrow.Author.Tests.{ltb-true}
 use lib.Dec.{ltb}
 use Rattle.model.proofs.Lists.{both-right}
-use Rattle.recovery.proofs.DeleteRows.{word-flag}
+use Rattle.recovery.proofs.OldestRecord.{word-flag}
 use borrow.Author.Needs.{needs}
-use Rattle.recovery.proofs.deleting.dirty_of.Statement.{statement}
-use Rattle.recovery.proofs.deleting.dirty_of.Tie as tie
+use Rattle.recovery.proofs.verdicts.dirty_of.Statement.{statement}
+use Rattle.recovery.proofs.verdicts.dirty_of.Tie as tie
 
 cast-at : tie.Need-cast-at
 cast-at c = search needs

@@ -1,42 +1,159 @@
--- A commit: what it logs before its own record, and that record, which closes the transaction.
-use Prim.Native.Nat.{ℕ, _+_, _-_, _*_, _/_, _%_, _<_}
-use native.Mathlib.Decide.{decLt, ℕ-discrete}
-use native.Mathlib.Omega.{arith}
+-- A commit: the redo records of its thread's newest values, all that it logs before its own record, and that record,
+-- which closes the transaction.
+use Prim.Native.Nat.{ℕ, _+_, _-_, _/_, _<_, _*_}
 use mathlib.Core.Path.{_≡_, refl, sym, ap, _∙_, subst}
-use mathlib.Core.Bool.{Bool, true, false, cond, false≢true}
+use mathlib.Core.Bool.{Bool, true, false, cond, false≢true, _&&_, and-eq-true-iff}
 use mathlib.Core.List.{List, [], _∷_, _++_, map, append-nil, append-assoc}
 use mathlib.Core.Logic.{inl}
-use mathlib.Core.Option.{none}
-use borrow.Author.Tests.{eq-eqb, ne-eqb}
+use mathlib.Core.Option.{none, Option, some}
+use native.Mathlib.Decide.{decLt, ℕ-discrete}
+use native.Mathlib.Omega.{arith}
+use native.Mathlib.Nat.{zero-add}
+use borrow.Author.Tests.{eq-eqb, ne-eqb, eqb-true, lt-ltb, le-leb}
 use lib.Dec.{eqb}
 use lib.ListN.{length, getD, take, set, length-set, length-map, length-append}
 use lib.Seq.{take-append-le, take-append-add, getD-set-same, getD-set-other}
 use Rattle.log.specs.declared.Record.{Record}
-use Rattle.log.specs.declared.Record.the-variants.{Commit}
+use Rattle.log.specs.declared.Record.the-variants.{Commit, Redo}
+use Rattle.log.specs.Holding.{Valid, Every}
 use Rattle.log.specs.Stores.{Store}
-use Rattle.log.specs.Holding.{Valid}
 use Rattle.log.proofs.Holding.{every-append}
 use Rattle.parts.specs.declared.Entry.{Entry}
 use Rattle.parts.specs.declared.Line.{Line}
 use Rattle.parts.specs.Lines.{nobody}
-use Rattle.parts.specs.States.{Clean, URLog, ULog, stateAt}
+use Rattle.parts.specs.States.{URLog, ULog}
 use Rattle.parts.proofs.States.{state-clean}
-use Rattle.model.specs.Lists.{keep}
-use Rattle.model.specs.Machine.{Machine, Memory, withLines, withUndoRedo, withRedo, isOpen, lineOf, stateIn, holderIn, dirtyIn, allLogged}
+use Rattle.model.specs.Lists.{keep, upTo, isEmpty}
+use Rattle.model.specs.Machine.{Machine, Memory, withLines, withUndoRedo, withRedo, isOpen, stateIn}
+use Rattle.model.specs.Machine.{holderIn, dirtyIn, allLogged, wordsMarked}
 use Rattle.model.specs.Consistent.{entriesOf}
-use Rattle.model.specs.Steps.{undoRedoRecord, redoRecord, newestWords, newestRedos, prepareRecords, prepareNext, released, closeNext}
-use Rattle.model.specs.Steps.{commitRecords, commitNext}
+use Rattle.model.specs.Steps.{undoRedoRecord, redoRecord, newestWords, newestRedos, prepareRecords, prepareNext}
+use Rattle.model.specs.Steps.{released, closeNext, commitRecords, commitNext}
 use Rattle.model.specs.Step.{commit}
 use Rattle.model.specs.Book.{Book, settled, entered}
-use Rattle.model.proofs.Lists.{every-implied, every-mapped}
-use Rattle.model.proofs.LastTo.{lastTo, settled-word}
-use Rattle.model.proofs.Own.{Own}
-use Rattle.model.proofs.Records.{own-commit, own-closed}
-use Rattle.model.proofs.Lines.{line-released, holder-words, holder-logged}
-use Rattle.model.proofs.Core.{At, Core, CoreOf, LineOk, Safe, Appends, core-safe, shape-owners}
-use Rattle.model.proofs.Words.{says-own, says-other, newest-known, committed-word}
-use Rattle.model.proofs.Logging.{undos-logged, redos-logged, undos-safe, redos-safe}
-use Rattle.model.proofs.Newest.{newestOf, isNewest, newest-after, newest-safe, newest-logged, none-ulog}
+use Rattle.model.proofs.Lists.{every-implied, every-mapped, every-kept, every-listed, take-map}
+use Rattle.model.proofs.LastTo.{lastTo, settled-word, last-append, first-none, last-made}
+use Rattle.model.proofs.Records.{Own, own-end, own-closed, redos, undo-of-redos, redo-of-redos, redos-append}
+use Rattle.model.proofs.Records.{own-redos}
+use Rattle.model.proofs.Lines.{line-released, holder-words, holder-logged, state-logged, state-words}
+use Rattle.model.proofs.Lines.{dirty-words, length-words}
+use Rattle.model.proofs.Core.{At, CoreOf, LineOk, Safe, Appends, core-safe, shape-owners, Says, says, Word}
+use Rattle.model.proofs.Core.{AtLine, EntryOk, Core, shape-lines}
+use Rattle.model.proofs.Logging.{says-own, says-other, newest-known, committed-word, grown, grown-none}
+use Rattle.model.proofs.Logging.{ulog-word, ulog-logged, undos-logged, redos-logged, undos-safe, redos-safe}
+use Rattle.model.proofs.Logging.{all-marked}
+use Rattle.model.proofs.Entries.{kept-once, once-or-none}
+
+-- the redos of redo records made of words
+redos-made : (t : ℕ) (f : ℕ → ℕ) (ws : List ℕ)
+    → redos (map (λ v. Redo t v (f v)) ws) ≡ map (λ v. record { at = v; value = f v }) ws
+unfolding redos
+redos-made t f [] = refl
+redos-made t f (v ∷ ws) = ap (λ (ss : List Store). record { at = v; value = f v } ∷ ss) (redos-made t f ws)
+
+-- a number below n is once among those that pass a test, if it passes
+kept-empty : (f : ℕ → Bool) (n w : ℕ) → w < n → keep (λ v. eqb v w) (keep f (upTo n)) ≡ cond (f w) (w ∷ []) []
+kept-empty f n w below = simp zero-add at (kept-once f 0 n w) ∙ (rw (le-leb 0 w (omega arith), lt-ltb w n below))
+
+-- the newest redo of a word among those of the numbers below n that pass a test
+last-kept : (w t : ℕ) (f : ℕ → Bool) (g : ℕ → ℕ) (n : ℕ) → w < n
+    → lastTo w (redos (map (λ v. Redo t v (g v)) (keep f (upTo n)))) ≡ cond (f w) (some (g w)) none
+last-kept w t f g n below =
+    ap (lastTo w) (redos-made t g (keep f (upTo n))) ∙ last-made w g (keep f (upTo n))
+    ∙ (rw (kept-empty f n w below) (once-or-none (f w) w none (some (g w))))
+
+-- t holds the word, and it is ULog
+abbrev pub isNewest : ℕ → List Line → ℕ → Bool
+isNewest t ls w = eqb (holderIn ls w) t && eqb (stateIn ls w) ULog
+
+-- logging the undo+redo buffer leaves the ULog words as they are
+pub newest-after : {words : ℕ} {opened : List Bool} {ls : List Line} {us ds : List Entry} {rs : List Record} {home working : List ℕ} {s : ℕ → ℕ}
+    {p : ℕ → List Store} (t : ℕ) → Core words opened ls us ds rs home working s p → (w : ℕ) → w < words
+    → isNewest t ls w ≡ isNewest t (allLogged us ls) w
+newest-after {words} {ls = ls} {us} t core w h =
+    let lines : words ≡ 8 * length ls = core .shape .lineCount in
+    let within : Every (λ e. e .word / 8 < length ls) us =
+    every-implied (EntryOk words) (λ e. e .word / 8 < length ls) us (λ e ok. omega arith) (core .shape .undos .ok) in
+    simp (holder-logged, state-logged us ls w within) (ap (λ b. eqb (holderIn ls w) t && b) (ulog-logged (core .at w h .word .state)))
+
+-- redo records of the working values of the words that pass a test
+abbrev pub newestOf : ℕ → (ℕ → Bool) → ℕ → List ℕ → List Record
+newestOf t f words working = map (λ w. Redo t w (getD working w 0)) (keep f (upTo words))
+
+module _ {words : ℕ} {opened : List Bool} {ls : List Line} {us ds : List Entry} {rs : List Record} {home working : List ℕ} {s : ℕ → ℕ}
+    {p : ℕ → List Store} (t : ℕ) (f : ℕ → Bool) (core : Core words opened ls us ds rs home working s p) where
+  -- a power cut is safe after any number of them
+  pub newest-safe : (k : ℕ) → Safe words (rs ++ take k (newestOf t f words working)) home s
+  unfolding Safe
+  newest-safe k w h = simp (take-map, undo-of-redos, redo-of-redos) (core-safe core w h)
+
+  module _ (small : t < 8) (picks : (w : ℕ) → w < words → f w ≡ isNewest t ls w) where
+    -- what the log says of a word then
+    says-newest : (w : ℕ) (dirty : Bool) → w < words
+        → says w dirty (rs ++ newestOf t f words working) ≡ grown dirty none (cond (f w) (some (getD working w 0)) none) (says w dirty rs)
+    says-newest w true h = simp (undo-of-redos, redo-of-redos, redos-append, last-append, last-kept, first-none)
+    says-newest w false h = simp (undo-of-redos, redo-of-redos, redos-append, last-append, last-kept, first-none)
+
+    held : (w : ℕ) → w < words → f w ≡ true → (holderIn ls w ≡ t) × (stateIn ls w ≡ ULog)
+    held w h q =
+        let both : (eqb (holderIn ls w) t ≡ true) × (eqb (stateIn ls w) ULog ≡ true) =
+        and-eq-true-iff (eqb (holderIn ls w) t) (eqb (stateIn ls w) ULog) .0 (sym (picks w h) ∙ q) in
+        (eqb-true (holderIn ls w) t (both .0), eqb-true (stateIn ls w) ULog (both .1))
+
+    -- a property of the words that are logged
+    each : (P : ℕ → Type 0) → ((w : ℕ) → w < words → f w ≡ true → P w) → Every P (keep f (upTo words))
+    each P holds = every-kept P f (upTo words) (every-listed (λ w. f w ≡ true → P w) words (λ w. w) holds)
+
+    -- the words after all of them
+    abbrev logged : List Line
+    logged = wordsMarked URLog (keep f (upTo words)) ls
+
+    pub state-newest : (w : ℕ) → w < words → stateIn logged w ≡ cond (f w) URLog (stateIn ls w)
+    state-newest w h =
+        state-words URLog (keep f (upTo words)) ls w (omega arith) (each (λ v. v / 8 < length ls) (λ v l q. omega (arith, core .shape .lineCount)))
+        ∙ ap (λ (vs : List ℕ). cond (isEmpty vs) (stateIn ls w) URLog) (kept-empty f words w h)
+        ∙ once-or-none (f w) w (stateIn ls w) URLog
+
+    word-newest : (w : ℕ) (b : Bool) {g : Says} {mine : Option ℕ} {sw hm x hw : ℕ} {d : Bool} {st : ℕ} {xs ys : List Entry} → (b ≡ true → st ≡ ULog)
+        → Word g mine sw hm x hw d st xs ys → Word (grown d none (cond b (some x) none) g) mine sw hm x hw d (cond b URLog st) xs ys
+    word-newest w true e word = ulog-word (e refl) word
+    word-newest w false {g} {d = d} e word = rw (grown-none d g) word
+
+    -- the invariant holds after all of them
+    pub newest-logged : Core words opened logged us ds (rs ++ newestOf t f words working) home working s p
+    newest-logged =
+        record {
+          shape = shape-lines (core .shape) (length-words URLog (keep f (upTo words)) ls)
+              (all-marked opened URLog (keep f (upTo words)) ls (omega arith) (each (λ v. holderIn ls v < 8) (λ v l q. rw (held v l q .0) small))
+              (core .shape .linesOk));
+          valid =
+              every-append (Valid words) rs (newestOf t f words working) (core .valid)
+              (every-mapped (Valid words) (λ w. Redo t w (getD working w 0)) (keep f (upTo words))
+              (each (λ w. Valid words (Redo t w (getD working w 0))) (λ w h q. record { thread = small; word = h })));
+          at = λ w h.
+              let before = core .at w h in
+              rw (holder-words URLog (keep f (upTo words)) ls w, dirty-words URLog (keep f (upTo words)) ls w, state-newest w h)
+              (record {
+                own =
+                    own-redos w (holderIn ls w) rs t (λ v. getD working v 0) (keep f (upTo words)) (before .own)
+                    (each (λ v. v ≡ w → t ≡ holderIn ls w) (λ v l q e. sym (held v l q .0) ∙ ap (holderIn ls) e));
+                others = before .others;
+                word = rw (says-newest w (dirtyIn ls w) h) (word-newest w (f w) (λ q. held w h q .1) (before .word));
+              });
+        }
+
+    -- no word that t holds is ULog then
+    pub none-ulog : (w : ℕ) → w < words → holderIn ls w ≡ t → stateIn logged w ≡ ULog → ⊥
+    none-ulog w h mine e =
+        elim (ℕ-discrete (stateIn ls w) ULog) [
+          | yes u ↦
+              let all : f w ≡ true = picks w h ∙ (rw (eq-eqb (holderIn ls w) t mine, eq-eqb (stateIn ls w) ULog u)) in
+              let now : URLog ≡ ULog = (rw all at (sym (state-newest w h))) ∙ e in
+              omega arith
+          | no ne ↦
+              let none : f w ≡ false = picks w h ∙ (rw (eq-eqb (holderIn ls w) t mine, ne-eqb (stateIn ls w) ULog ne)) in
+              ne ((rw none at (sym (state-newest w h))) ∙ e)
+        ]
 
 -- records appended, then others: what a power cut leaves in between is safe, and the invariant holds at the end
 pub appends-then : {m mid next : Machine} {home : List ℕ} {b book : Book} {rs xs ys : List Record} {working last : List ℕ}
@@ -58,30 +175,6 @@ appends-then {m} {mid} {home = home} {b} {rs = rs} {xs} {ys} early late same =
       core = rw (← append-assoc) (late .core);
     }
 
--- what is logged before the commit record: the undo+redo buffer, the redo buffer, and t's newest values
-pub prepare-step : (m : Machine) (mem : Memory) (b : Book) (rs : List Record) (t : ℕ) → CoreOf m (mem .home) (mem .working) b rs → t < 8
-    → Appends m (mem .home) b rs (prepareRecords m mem t) (prepareNext m mem t) (mem .working) b
-unfolding prepareRecords prepareNext newestRedos newestWords
-prepare-step m mem b rs t core small =
-    let us : List Entry = m .buffers .undoRedo in
-    let ds : List Entry = m .buffers .redo in
-    let xs : List Record = map undoRedoRecord us in
-    let test : ℕ → Bool = isNewest t (m .lines) in
-    let before = rw (← (append-nil us)) at core in
-    let first = undos-logged us [] ds (m .lines) rs before in
-    let between = rw (← (append-nil ds)) at first in
-    let second = redos-logged ds [] [] (allLogged us (m .lines)) (rs ++ xs) between in
-    let undone : Machine = withUndoRedo [] (withLines (allLogged us (m .lines)) m) in
-    let undos : Appends m (mem .home) b rs xs undone (mem .working) b =
-    record { safe = λ k h. undos-safe k us [] ds (m .lines) rs before; core = first } in
-    let redos : Appends undone (mem .home) b (rs ++ xs) (map redoRecord ds) (withRedo [] undone) (mem .working) b =
-    record { safe = λ k h. redos-safe k ds [] [] (allLogged us (m .lines)) (rs ++ xs) between; core = second } in
-    appends-then undos
-    (appends-then redos
-    (record { safe = λ k h. newest-safe t test second k; core = newest-logged t test second small (newest-after t core) })
-    refl)
-    refl
-
 -- a line that is in order stays so when t commits
 line-committed : (opened : List Bool) (t : ℕ) (line : Line) → LineOk opened line → LineOk (set opened t false) (released t line)
 unfolding released
@@ -93,61 +186,62 @@ line-committed opened t line ok =
           (record { states = ok .states; holder = rw (getD-set-other opened t (line .holder) false false ne) (ok .holder) })
     ]
 
-module _ (t : ℕ) (small : t < 8) (ls : List Line) where
-  -- a part of a line that t held is that of a free one with its dirty flag, of another line as it was
-  released-part : {A : Type 0} (part : Line → A) (k : ℕ)
-      → part (lineOf (map (released t) ls) k)
-      ≡ cond (eqb (lineOf ls k .holder) t) (part (record { holder = nobody; dirty = lineOf ls k .dirty; states = 0 })) (part (lineOf ls k))
-  unfolding released
-  released-part part k =
-      let freed : Line = record { holder = nobody; dirty = lineOf ls k .dirty; states = 0 } in
-      ap part (line-released t ls k (λ e. omega arith))
-      ∙ elim (eqb (lineOf ls k .holder) t) as (λ b. part (cond b freed (lineOf ls k)) ≡ cond b (part freed) (part (lineOf ls k))) [
-        | true ↦ refl
-        | false ↦ refl
-      ]
-
-  holder-released : (w : ℕ) → holderIn (map (released t) ls) w ≡ cond (eqb (holderIn ls w) t) nobody (holderIn ls w)
-  unfolding holderIn
-  holder-released w = released-part (λ line. line .holder) (w / 8)
-
-  dirty-released : (w : ℕ) → dirtyIn (map (released t) ls) w ≡ dirtyIn ls w
-  unfolding dirtyIn holderIn
-  dirty-released w =
-      released-part (λ line. line .dirty) (w / 8)
-      ∙ elim (eqb (holderIn ls w) t) as (λ b. cond b (dirtyIn ls w) (dirtyIn ls w) ≡ dirtyIn ls w) [ true ↦ refl | false ↦ refl ]
-
-  state-released : (w : ℕ) → stateIn (map (released t) ls) w ≡ cond (eqb (holderIn ls w) t) Clean (stateIn ls w)
-  unfolding stateIn holderIn
-  state-released w =
-      released-part (λ line. stateAt (line .states) (w % 8)) (w / 8)
-      ∙ ap (λ n. cond (eqb (holderIn ls w) t) n (stateIn ls w)) (state-clean (w % 8))
-
--- preparing leaves the sizes and the open transactions
-same-sizes : (m : Machine) (mem : Memory) (t : ℕ) → prepareNext m mem t .sizes ≡ m .sizes
-unfolding prepareNext
-same-sizes m mem t = refl
-
-still-open : (m : Machine) (mem : Memory) (t : ℕ) → isOpen m t ≡ true → isOpen (prepareNext m mem t) t ≡ true
-unfolding prepareNext
-still-open m mem t e = e
-
 -- nothing of t's is left to log: of each word that it holds no entry waits, and it is not ULog
 unfoldable pub AllPrepared : ℕ → Machine → Type 0
 AllPrepared t m =
     (w : ℕ) → w < m .sizes .words → holderIn (m .lines) w ≡ t
     → (entriesOf w (m .buffers .undoRedo) ≡ []) × ((entriesOf w (m .buffers .redo) ≡ []) × (stateIn (m .lines) w ≡ ULog → ⊥))
 
--- so it is after what a commit logs before its record
-pub all-prepared : (m : Machine) (mem : Memory) (b : Book) (rs : List Record) (t : ℕ) → CoreOf m (mem .home) (mem .working) b rs → t < 8
-    → AllPrepared t (prepareNext m mem t)
-unfolding AllPrepared prepareNext newestWords keep
-all-prepared m mem b rs t core small w h mine =
-    let us : List Entry = m .buffers .undoRedo in
-    let ds : List Entry = m .buffers .redo in
-    let first = undos-logged us [] ds (m .lines) rs (rw (← (append-nil us)) at core) in
-    let second = redos-logged ds [] [] (allLogged us (m .lines)) _ (rw (← (append-nil ds)) at first) in
-    (refl, (refl, none-ulog t (isNewest t (m .lines)) second small (newest-after t core) w h (sym (holder-words URLog _ _ w) ∙ mine)))
+module _ (m : Machine) (mem : Memory) (b : Book) (rs : List Record) (t : ℕ)
+    (core : CoreOf m (mem .home) (mem .working) b rs) (small : t < 8) where
+  abbrev us : List Entry
+  us = m .buffers .undoRedo
+
+  abbrev ds : List Entry
+  ds = m .buffers .redo
+
+  -- the machine once the undo+redo buffer is logged
+  abbrev undone : Machine
+  undone = withUndoRedo [] (withLines (allLogged us (m .lines)) m)
+
+  with-undos : Appends m (mem .home) b rs (map undoRedoRecord us) undone (mem .working) b
+  with-undos =
+      let before = rw (← (append-nil us)) at core in
+      record {
+        safe = λ k h. undos-safe k us [] ds (m .lines) rs before;
+        core = undos-logged us [] ds (m .lines) rs before;
+      }
+
+  -- and once the redo buffer is too
+  with-redos : Appends undone (mem .home) b (rs ++ map undoRedoRecord us) (map redoRecord ds) (withRedo [] undone)
+      (mem .working) b
+  with-redos =
+      let between = rw (← (append-nil ds)) at (with-undos .core) in
+      record {
+        safe = λ k h. redos-safe k ds [] [] (allLogged us (m .lines)) (rs ++ map undoRedoRecord us) between;
+        core = redos-logged ds [] [] (allLogged us (m .lines)) (rs ++ map undoRedoRecord us) between;
+      }
+
+  -- what is logged before the commit record: the undo+redo buffer, the redo buffer, and t's newest values
+  pub prepare-step : Appends m (mem .home) b rs (prepareRecords m mem t) (prepareNext m mem t) (mem .working) b
+  unfolding prepareRecords prepareNext newestRedos newestWords
+  prepare-step =
+      let test : ℕ → Bool = isNewest t (m .lines) in
+      appends-then with-undos
+      (appends-then with-redos
+      (record {
+        safe = λ k h. newest-safe t test (with-redos .core) k;
+        core = newest-logged t test (with-redos .core) small (newest-after t core);
+      })
+      refl)
+      refl
+
+  -- nothing of t's is left to log then
+  pub all-prepared : AllPrepared t (prepareNext m mem t)
+  unfolding AllPrepared prepareNext newestWords keep
+  all-prepared w h mine =
+      let left = none-ulog t (isNewest t (m .lines)) (with-redos .core) small (newest-after t core) w h in
+      (refl, (refl, left (sym (holder-words URLog _ _ w) ∙ mine)))
 
 -- The commit record, of any machine in which nothing of t's is left to log; other threads' entries stay.
 module _ (m : Machine) (home working : List ℕ) (b : Book) (rs : List Record) (t : ℕ) (core : CoreOf m home working b rs) (small : t < 8)
@@ -171,16 +265,18 @@ module _ (m : Machine) (home working : List ℕ) (b : Book) (rs : List Record) (
       → At (set (m .opened) t false) (rs ++ (Commit t ∷ [])) (b .pending) w (settled (b .committed) (b .pending t) w) (getD home w 0)
       (getD working w 0) (holderIn (map (released t) ls) w) (dirtyIn (map (released t) ls) w) (stateIn (map (released t) ls) w)
       (entriesOf w (m .buffers .undoRedo)) (entriesOf w (m .buffers .redo))
-  unfolding AllPrepared
+  unfolding AllPrepared stateIn holderIn dirtyIn released
   closed-at w h =
       let before = core .at w h in
-      rw (holder-released t small ls w, dirty-released t small ls w, state-released t small ls w, settled-word w (b .committed) (b .pending t))
+      rw (settled-word w (b .committed) (b .pending t))
+      (subst (AtLine (set (m .opened) t false) _ (b .pending) w _ (getD home w 0) (getD working w 0) _ _)
+      (sym (line-released t ls (w / 8) (λ e. omega arith)))
       (elim (ℕ-discrete (holderIn ls w) t) [
         | yes e ↦
             let left = prepared w h e in
             let own : Own w t rs = rw e at (before .own) in
             let newest = newest-known (before .word .state) (left .0) (left .1 .0) (left .1 .1) in
-            rw (eq-eqb (holderIn ls w) t e, left .0, left .1 .0)
+            rw (eq-eqb (holderIn ls w) t e, left .0, left .1 .0, state-clean)
             (record {
               own = own-closed w t nobody rs own;
               others = λ u few begun apart. still-none w h u few begun (λ ne q. ne (q ∙ e));
@@ -192,13 +288,13 @@ module _ (m : Machine) (home working : List ℕ) (b : Book) (rs : List Record) (
             let other : t ≡ holderIn ls w → ⊥ = λ e. ne (sym e) in
             rw (ne-eqb (holderIn ls w) t ne)
             (record {
-              own = own-commit w (holderIn ls w) t rs (before .own);
+              own = own-end w (holderIn ls w) rs (Commit t) (before .own) (λ hit. absurd (false≢true hit));
               others = λ u few begun apart. still-none w h u few begun (λ _ q. apart q);
               word =
                   rw (says-other w (holderIn ls w) t (dirtyIn ls w) rs (before .own) other, before .others t small began other)
                   (before .word);
             })
-      ])
+      ]))
 
   pub close-step : 0 < m .sizes .words → Appends m home b rs (Commit t ∷ []) (closeNext t m) working (entered (commit t) b)
   unfolding entered
@@ -219,12 +315,12 @@ module _ (m : Machine) (home working : List ℕ) (b : Book) (rs : List Record) (
 
 -- commit t: the one, then the other
 pub commit-step : (m : Machine) (mem : Memory) (b : Book) (rs : List Record) (t : ℕ) → CoreOf m (mem .home) (mem .working) b rs
-    → 0 < m .sizes .words → t < 8 → isOpen m t ≡ true
+    → t < 8 → 0 < m .sizes .words → isOpen m t ≡ true
     → Appends m (mem .home) b rs (commitRecords m mem t) (commitNext m mem t) (mem .working) (entered (commit t) b)
-unfolding commitRecords
-commit-step m mem b rs t core wide small began =
+unfolding commitRecords prepareNext
+commit-step m mem b rs t core small wide began =
     let first = prepare-step m mem b rs t core small in
     appends-then first
-    (close-step (prepareNext m mem t) (mem .home) (mem .working) b (rs ++ prepareRecords m mem t) t (first .core) small (still-open m mem t began)
-    (all-prepared m mem b rs t core small) (rw (same-sizes m mem t) wide))
-    (same-sizes m mem t)
+    (close-step (prepareNext m mem t) (mem .home) (mem .working) b (rs ++ prepareRecords m mem t) t (first .core) small
+    began (all-prepared m mem b rs t core small) wide)
+    refl

@@ -54,29 +54,14 @@ pub record Waits (wanted st h : ℕ) (es : List Entry) (e : Entry) : Type 0 wher
   pub thread : e .thread ≡ h
 
 module _ {g : Says} {s hm x h st : ℕ} {dirty : Bool} {us ds : List Entry} where
-  -- an undo+redo entry waits for a Dirty word
-  waits-dirty : State g s hm x h dirty st us ds → Every (Waits Dirty st h us) us
-  waits-dirty (clean c u d o n) = rw u tt
-  waits-dirty (cleanWaiting e c u d t r o) = rw u tt
-  waits-dirty (changed e c u d t r o y) = rw u (record { state = c; alone = refl; thread = t }, tt)
-  waits-dirty (urlog c u d o n) = rw u tt
-  waits-dirty (ulog c u d o) = rw u tt
-
-  -- a redo entry waits for a Clean one
-  waits-clean : State g s hm x h dirty st us ds → Every (Waits Clean st h ds) ds
-  waits-clean (clean c u d o n) = rw d tt
-  waits-clean (cleanWaiting e c u d t r o) = rw d (record { state = c; alone = refl; thread = t }, tt)
-  waits-clean (changed e c u d t r o y) = rw d tt
-  waits-clean (urlog c u d o n) = rw d tt
-  waits-clean (ulog c u d o) = rw d tt
-
-  -- a Dirty word has one undo+redo entry
-  dirty-waits : State g s hm x h dirty st us ds → (not (eqb st Dirty) || eqb (length us) 1) ≡ true
-  dirty-waits (clean c u d o n) = rw c
-  dirty-waits (cleanWaiting e c u d t r o) = rw c
-  dirty-waits (changed e c u d t r o y) = rw (c, u)
-  dirty-waits (urlog c u d o n) = rw c
-  dirty-waits (ulog c u d o) = rw c
+  -- an undo+redo entry waits for a Dirty word, a redo entry for a Clean one, and a Dirty word has one undo+redo entry
+  waits : State g s hm x h dirty st us ds → Every (Waits Dirty st h us) us × Every (Waits Clean st h ds) ds
+      × ((not (eqb st Dirty) || eqb (length us) 1) ≡ true)
+  waits (clean c u d o n) = (rw u tt, rw d tt, rw c)
+  waits (cleanWaiting e c u d t r o) = (rw u tt, rw d (record { state = c; alone = refl; thread = t }, tt), rw c)
+  waits (changed e c u d t r o y) = (rw u (record { state = c; alone = refl; thread = t }, tt), rw d tt, rw (c, u))
+  waits (urlog c u d o n) = (rw u tt, rw d tt, rw c)
+  waits (ulog c u d o) = (rw u tt, rw d tt, rw c)
 
 -- an entry's numbers are within their limits
 pub entry-limits : (words : ℕ) (e : Entry) → EntryOk words e → entryLimits words e ≡ true
@@ -130,10 +115,13 @@ module _ (m : Machine) (home working : List ℕ) (b : Book) (rs : List Record) (
   -- undo+redo entries wait for Dirty words, redo entries for Clean ones
   undos-wait : AllWait Dirty (m .lines) (m .buffers .undoRedo)
   undos-wait =
-      every-entry (m .sizes .words) (WaitsFor Dirty (m .lines) (m .buffers .undoRedo)) (m .buffers .undoRedo) (core .shape .undos .ok) (λ w h. waits-dirty (core .at w h .word .state))
+      every-entry (m .sizes .words) (WaitsFor Dirty (m .lines) (m .buffers .undoRedo)) (m .buffers .undoRedo)
+      (core .shape .undos .ok) (λ w h. waits (core .at w h .word .state) .0)
 
   redos-wait : AllWait Clean (m .lines) (m .buffers .redo)
-  redos-wait = every-entry (m .sizes .words) (WaitsFor Clean (m .lines) (m .buffers .redo)) (m .buffers .redo) (core .shape .redos .ok) (λ w h. waits-clean (core .at w h .word .state))
+  redos-wait =
+      every-entry (m .sizes .words) (WaitsFor Clean (m .lines) (m .buffers .redo)) (m .buffers .redo)
+      (core .shape .redos .ok) (λ w h. waits (core .at w h .word .state) .1)
 
   -- a test that every line passes, and one that every word passes
   all-lines : (f : Line → Bool) → ((line : Line) → LineOk (m .opened) line → f line ≡ true) → all f (m .lines) ≡ true
@@ -142,54 +130,34 @@ module _ (m : Machine) (home working : List ℕ) (b : Book) (rs : List Record) (
   all-words : (f : ℕ → Bool) → ((w : ℕ) → w < m .sizes .words → f w ≡ true) → all f (upTo (m .sizes .words)) ≡ true
   all-words f pass = all-true (λ w. f w ≡ true) f (upTo (m .sizes .words)) (λ w e. e) (every-listed (λ w. f w ≡ true) (m .sizes .words) (λ w. w) pass)
 
-  -- the clauses on the buffers and the lines, each by its name in the definition
-  dirty-wait : dirtyWait m ≡ true
-  unfolding dirtyWait
-  dirty-wait =
+  -- every entry is within its limits
+  all-entries : (es : List Entry) → Every (EntryOk (m .sizes .words)) es → all (entryLimits (m .sizes .words)) es ≡ true
+  all-entries es ok = all-true _ (entryLimits (m .sizes .words)) es (entry-limits (m .sizes .words)) ok
+
+  -- a machine that keeps the invariant, with its log's numbers in order, is consistent
+  pub core-consistent : (log : List ℕ) → isWidth (m .sizes .words) ≡ true → 8 ≤ m .sizes .slots → m .sizes .slots ≤ 1024
+      → m .span .head + length rs ≤ numbers → length rs ≤ m .sizes .slots → m .span .tail ≡ m .span .head + length rs
+      → headOf log ≡ m .span .head → consistentWith m log ≡ true
+  unfolding consistentWith consistent withinLimits dirtyWait redoClean entriesHeld holdersOpen freeClean
+  core-consistent log width least most numbered room tail head =
+      let us : List Entry = m .buffers .undoRedo in
+      let ds : List Entry = m .buffers .redo in
       both
-      (all-words (λ w. not (eqb (stateIn (m .lines) w) Dirty) || eqb (length (entriesOf w (m .buffers .undoRedo))) 1) (λ w h. dirty-waits (core .at w h .word .state)))
-      (all-in-state Dirty (m .lines) (m .buffers .undoRedo) undos-wait)
-
-  redo-clean : redoClean m ≡ true
-  unfolding redoClean
-  redo-clean = all-alone Clean (m .lines) (m .buffers .redo) redos-wait
-
-  entries-held : entriesHeld m ≡ true
-  unfolding entriesHeld
-  entries-held = both (all-held Dirty (m .lines) (m .buffers .undoRedo) undos-wait) (all-held Clean (m .lines) (m .buffers .redo) redos-wait)
-
-  holders-open : holdersOpen m ≡ true
-  unfolding holdersOpen
-  holders-open = all-lines _ (holder-open (m .opened))
-
-  all-free-clean : freeClean m ≡ true
-  unfolding freeClean
-  all-free-clean = all-lines _ (free-clean (m .opened))
-
-  -- the numbers are within their limits
-  within-limits : isWidth (m .sizes .words) ≡ true → 8 ≤ m .sizes .slots → m .sizes .slots ≤ 1024 → m .span .head ≤ numbers → m .span .tail ≤ numbers → withinLimits m ≡ true
-  unfolding withinLimits
-  within-limits width least most head tail =
-      both (both width (both (le-leb 8 (m .sizes .slots) least) (le-leb (m .sizes .slots) 1024 most)))
-      (both (both (le-leb (m .span .head) numbers head) (le-leb (m .span .tail) numbers tail))
+      (both
+      (both (both width (both (le-leb 8 (m .sizes .slots) least) (le-leb (m .sizes .slots) 1024 most)))
+      (both (both (le-leb (m .span .head) numbers (omega arith)) (le-leb (m .span .tail) numbers (omega arith)))
       (both (all-lines lineLimits (line-limits (m .opened)))
-      (both (both (le-leb (length (m .buffers .undoRedo)) 16 (core .shape .undos .size)) (le-leb (length (m .buffers .redo)) 32 (core .shape .redos .size)))
-      (both (entries (m .buffers .undoRedo) (core .shape .undos .ok)) (entries (m .buffers .redo) (core .shape .redos .ok))))))
-    where
-      entries : (es : List Entry) → Every (EntryOk (m .sizes .words)) es → all (entryLimits (m .sizes .words)) es ≡ true
-      entries es ok = all-true (EntryOk (m .sizes .words)) (entryLimits (m .sizes .words)) es (entry-limits (m .sizes .words)) ok
-
--- a machine that keeps the invariant, with its log's numbers in order, is consistent
-pub core-consistent : (m : Machine) (home working : List ℕ) (b : Book) (rs : List Record) (log : List ℕ) → CoreOf m home working b rs
-    → isWidth (m .sizes .words) ≡ true → 8 ≤ m .sizes .slots → m .sizes .slots ≤ 1024 → m .span .head + length rs ≤ numbers → length rs ≤ m .sizes .slots
-    → m .span .tail ≡ m .span .head + length rs → headOf log ≡ m .span .head → consistentWith m log ≡ true
-unfolding consistentWith consistent
-core-consistent m home working b rs log core width least most numbered room tail head =
-    both
-    (both (within-limits m home working b rs core width least most (omega arith) (omega arith))
-    (both (both (le-leb (m .span .head) (m .span .tail) (omega arith)) (le-leb (m .span .tail) (m .span .head + m .sizes .slots) (omega arith)))
-    (both (dirty-wait m home working b rs core)
-    (both (redo-clean m home working b rs core)
-    (both (entries-held m home working b rs core)
-    (both (holders-open m home working b rs core) (all-free-clean m home working b rs core)))))))
-    (eq-eqb (headOf log) (m .span .head) head)
+      (both (both (le-leb (length us) 16 (core .shape .undos .size)) (le-leb (length ds) 32 (core .shape .redos .size)))
+      (both (all-entries us (core .shape .undos .ok)) (all-entries ds (core .shape .redos .ok)))))))
+      (both
+      (both (le-leb (m .span .head) (m .span .tail) (omega arith))
+      (le-leb (m .span .tail) (m .span .head + m .sizes .slots) (omega arith)))
+      (both
+      (both
+      (all-words (λ w. not (eqb (stateIn (m .lines) w) Dirty) || eqb (length (entriesOf w us)) 1)
+      (λ w h. waits (core .at w h .word .state) .2))
+      (all-in-state Dirty (m .lines) us undos-wait))
+      (both (all-alone Clean (m .lines) ds redos-wait)
+      (both (both (all-held Dirty (m .lines) us undos-wait) (all-held Clean (m .lines) ds redos-wait))
+      (both (all-lines _ (holder-open (m .opened))) (all-lines _ (free-clean (m .opened)))))))))
+      (eq-eqb (headOf log) (m .span .head) head)

@@ -1,24 +1,27 @@
--- The invariant of a machine that is not lost, word by word.
-use Prim.Native.Nat.{ℕ, _+_, _*_, _^_, _<_, _≤_}
-use mathlib.Core.Path.{_≡_, refl, sym, ap, _∙_}
-use mathlib.Core.Bool.{Bool, true, false, cond}
+-- The invariant of a machine that is not lost, word by word; and of a world: its machine is live, or lost with a log
+-- from which recovery brings the committed values home.
+use Prim.Native.Nat.{ℕ, _+_, _%_, _≤_, _*_, _^_, _<_}
+use mathlib.Core.Path.{_≡_, sym, _∙_, subst, refl, ap}
+use mathlib.Core.Bool.{true, false, Bool, cond}
 use mathlib.Core.List.{List, [], _∷_, _++_}
 use mathlib.Core.Logic.{_⊎_}
 use mathlib.Core.Option.{Option, none, some}
+use borrow.Author.Tests.{leb-true, eqb-true}
 use lib.ListN.{length, getD, take}
 use Rattle.log.specs.declared.Record.{Record}
+use Rattle.log.specs.Holding.{Holds, Every, Valid}
 use Rattle.log.specs.Stores.{Store}
-use Rattle.log.specs.Holding.{Every, Valid}
 use Rattle.parts.specs.declared.Entry.{Entry}
 use Rattle.parts.specs.declared.Line.{Line}
 use Rattle.parts.specs.Lines.{nobody}
-use Rattle.parts.specs.States.{Clean, Dirty, URLog, ULog}
-use Rattle.model.specs.Machine.{Machine, stateIn, holderIn, dirtyIn}
-use Rattle.model.specs.Consistent.{entriesOf}
+use Rattle.parts.specs.States.{Clean, Dirty, URLog, ULog, stateAt}
+use Rattle.model.specs.Machine.{Machine, Memory, stateIn, holderIn, dirtyIn}
+use Rattle.model.specs.Consistent.{isWidth, entriesOf}
 use Rattle.model.specs.Book.{Book}
 use Rattle.model.specs.Recovery.{redoWrites, undoWrites}
+use Rattle.model.proofs.Lists.{halves}
 use Rattle.model.proofs.LastTo.{or, lastTo}
-use Rattle.model.proofs.Own.{redos, Own}
+use Rattle.model.proofs.Records.{redos, Own}
 
 -- What the log says of a word: the oldest undo of an open record of it, the newest redo of a closed one and of any; and both newest redos
 -- of the recent records alone.
@@ -104,6 +107,11 @@ pub record At (opened : List Bool) (rs : List Record) (p : ℕ → List Store) (
   pub others : (t : ℕ) → t < 8 → getD opened t false ≡ true → (t ≡ h → ⊥) → lastTo w (p t) ≡ none
   pub word : Word (says w dirty rs) (lastTo w (p h)) s hm x h dirty st us ds
 
+-- all that, of a word whose line is the last argument
+abbrev pub AtLine : List Bool → List Record → (ℕ → List Store) → ℕ → (s hm x : ℕ) → (us ds : List Entry) → Line → Type 0
+AtLine opened rs p w s hm x us ds line =
+    At opened rs p w s hm x (line .holder) (line .dirty) (stateAt (line .states) (w % 8)) us ds
+
 -- The invariant, of the parts of a machine, the records in the log, home and working words, and the book. A step shows what it changes of the
 -- shape, by the laws below, of the records, and of each word.
 pub record Core (words : ℕ) (opened : List Bool) (ls : List Line) (us ds : List Entry) (rs : List Record) (home working : List ℕ)
@@ -115,39 +123,32 @@ pub record Core (words : ℕ) (opened : List Bool) (ls : List Line) (us ds : Lis
 
 module _ {words : ℕ} {opened : List Bool} {ls : List Line} {us ds : List Entry} {home working : List ℕ}
     (shape : Shape words opened ls us ds home working) where
-  -- other lines and other open transactions
-  pub shape-owners : {ls′ : List Line} {opened′ : List Bool} → length ls′ ≡ length ls → length opened′ ≡ length opened → Every (LineOk opened′) ls′
-      → Shape words opened′ ls′ us ds home working
-  shape-owners same still ok =
+  -- other lines, open transactions, entries, home and working words
+  reshaped : {ls′ : List Line} {opened′ : List Bool} {us′ ds′ : List Entry} {home′ working′ : List ℕ}
+      → length ls′ ≡ length ls → length opened′ ≡ length opened → Every (LineOk opened′) ls′
+      → Entries words 16 us′ → Entries words 32 ds′ → length home′ ≡ length home → length working′ ≡ length working
+      → Shape words opened′ ls′ us′ ds′ home′ working′
+  reshaped same still ok inUndo inRedo sameHome sameWorking =
       record {
         lineCount = shape .lineCount ∙ ap (λ n. 8 * n) (sym same);
-        homeSize = shape .homeSize;
-        workingSize = shape .workingSize;
+        homeSize = sameHome ∙ shape .homeSize;
+        workingSize = sameWorking ∙ shape .workingSize;
         threads = still ∙ shape .threads;
         linesOk = ok;
-        undos = shape .undos;
-        redos = shape .redos;
+        undos = inUndo;
+        redos = inRedo;
       }
+
+  pub shape-owners : {ls′ : List Line} {opened′ : List Bool} → length ls′ ≡ length ls → length opened′ ≡ length opened
+      → Every (LineOk opened′) ls′ → Shape words opened′ ls′ us ds home working
+  shape-owners same still ok = reshaped same still ok (shape .undos) (shape .redos) refl refl
 
   pub shape-lines : {ls′ : List Line} → length ls′ ≡ length ls → Every (LineOk opened) ls′ → Shape words opened ls′ us ds home working
   shape-lines same ok = shape-owners same refl ok
 
-  pub shape-opened : {opened′ : List Bool} → length opened′ ≡ length opened → Every (LineOk opened′) ls → Shape words opened′ ls us ds home working
-  shape-opened still ok = shape-owners refl still ok
-
-  -- other entries, home and working words
   pub shape-words : {us′ ds′ : List Entry} {home′ working′ : List ℕ} → Entries words 16 us′ → Entries words 32 ds′
       → length home′ ≡ length home → length working′ ≡ length working → Shape words opened ls us′ ds′ home′ working′
-  shape-words inUndo inRedo sameHome sameWorking =
-      record {
-        lineCount = shape .lineCount;
-        homeSize = sameHome ∙ shape .homeSize;
-        workingSize = sameWorking ∙ shape .workingSize;
-        threads = shape .threads;
-        linesOk = shape .linesOk;
-        undos = inUndo;
-        redos = inRedo;
-      }
+  shape-words = reshaped refl refl (shape .linesOk)
 
   pub shape-entries : {us′ ds′ : List Entry} → Entries words 16 us′ → Entries words 32 ds′ → Shape words opened ls us′ ds′ home working
   shape-entries inUndo inRedo = shape-words inUndo inRedo refl refl
@@ -183,3 +184,52 @@ pub core-safe : {words : ℕ} {opened : List Bool} {ls : List Line} {us ds : Lis
 unfolding Safe
 core-safe {ls = ls} {rs = rs} {home = home} {s = s} core w h =
     crash-all w (dirtyIn ls w) rs (getD home w 0) (s w) (core .at w h .word .crash) (core .at w h .word .closed)
+
+-- What recovery needs of the buffers: l slots that hold the records rs from head on, and home words that are safe with them.
+pub record Kept (l : ℕ) (mem : Memory) (s : ℕ → ℕ) : Type 0 where
+  pub rs : List Record
+  pub head : ℕ
+  pub width : isWidth (length (mem .home)) ≡ true
+  pub working : length (mem .working) ≡ length (mem .home)
+  pub holds : Holds (length (mem .home)) l (mem .log) head rs
+  pub safe : Safe (length (mem .home)) rs (mem .home) s
+
+-- A machine that is not lost, with its buffers and the book.
+pub record Live (l : ℕ) (m : Machine) (mem : Memory) (b : Book) : Type 0 where
+  pub rs : List Record
+  pub alive : m .lost ≡ false
+  pub width : isWidth (m .sizes .words) ≡ true
+  pub slots : m .sizes .slots ≡ l
+  pub holds : Holds (m .sizes .words) l (mem .log) (m .span .head) rs
+  pub tail : m .span .tail ≡ m .span .head + length rs
+  pub core : CoreOf m (mem .home) (mem .working) b rs
+
+pub data Ready (l : ℕ) (m : Machine) (mem : Memory) (b : Book) : Type 0 where
+  live : Live l m mem b → Ready l m mem b
+  dark : m .lost ≡ true → Kept l mem (b .committed) → Ready l m mem b
+
+-- buffers of so many words that recovery can use
+pub kept : {l : ℕ} (words : ℕ) (mem : Memory) (s : ℕ → ℕ) (rs : List Record) (head : ℕ) → isWidth words ≡ true → length (mem .home) ≡ words
+    → length (mem .working) ≡ words → Holds words l (mem .log) head rs → Safe words rs (mem .home) s → Kept l mem s
+kept {l} words mem s rs head width size working holds safe =
+    record {
+      rs = rs;
+      head = head;
+      width = rw size width;
+      working = working ∙ sym size;
+      holds = subst (λ (n : ℕ). Holds n l (mem .log) head rs) (sym size) holds;
+      safe = subst (λ (n : ℕ). Safe n rs (mem .home) s) (sym size) safe;
+    }
+
+-- those of a live machine
+pub live-kept : {l : ℕ} (m : Machine) (mem : Memory) (b : Book) → Live l m mem b → Kept l mem (b .committed)
+live-kept m mem b world =
+    kept (m .sizes .words) mem (b .committed) (world .rs) (m .span .head) (world .width) (world .core .shape .homeSize) (world .core .shape .workingSize) (world .holds)
+    (core-safe (world .core))
+
+-- the limits of a width
+pub width-limits : (n : ℕ) → isWidth n ≡ true → (8 ≤ n) × (n ≤ 512) × (n % 8 ≡ 0)
+width-limits n e =
+    let (least, rest) = halves e in
+    let (most, whole) = halves rest in
+    (leb-true 8 n least, leb-true n 512 most, eqb-true (n % 8) 0 whole)

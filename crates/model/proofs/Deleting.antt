@@ -1,5 +1,5 @@
 -- The oldest record is deleted, and a transaction begins.
-use Prim.Native.Nat.{ℕ, _+_, _/_, _<_}
+use Prim.Native.Nat.{ℕ, _/_, _<_}
 use mathlib.Core.Path.{_≡_, refl, sym, ap, _∙_}
 use mathlib.Core.Bool.{Bool, true, false, cond, true≢false}
 use mathlib.Core.List.{List, [], _∷_, map}
@@ -16,21 +16,20 @@ use Rattle.log.specs.declared.Reading.the-variants.{Good}
 use Rattle.log.proofs.Holding.{every-at}
 use Rattle.parts.specs.declared.Entry.{Entry}
 use Rattle.parts.specs.declared.Line.{Line}
-use Rattle.parts.specs.declared.Verdict.{Verdict}
 use Rattle.parts.specs.declared.Verdict.the-variants.{Open, Needed, Spare}
 use Rattle.parts.specs.Lines.{freeLine}
 use Rattle.model.specs.Machine.{Machine, isOpen, lineOf, holderIn, dirtyIn}
-use Rattle.model.specs.Readings.{records, closed}
+use Rattle.model.specs.Readings.{closed}
 use Rattle.model.specs.Verdict.{judged, verdictOn}
 use Rattle.model.specs.Steps.{beginNext, deleteNext}
 use Rattle.model.specs.Recovery.{redoOfClosed, undoOfOpen, redoWrites, undoWrites}
 use Rattle.model.specs.Step.{begin}
 use Rattle.model.specs.Book.{Book, entered}
 use Rattle.model.proofs.LastTo.{first, or, lastTo, first-none, last-append}
-use Rattle.model.proofs.Own.{redos}
+use Rattle.model.proofs.Records.{redos, redos-append, all-records}
 use Rattle.model.proofs.Lists.{every-implied}
-use Rattle.model.proofs.Records.{redos-append, all-records}
-use Rattle.model.proofs.Core.{Says, says, Newest, State, clean, cleanWaiting, changed, urlog, ulog, Word, LineOk, CoreOf, shape-opened}
+use Rattle.model.proofs.Core.{Says, says, Newest, State, clean, cleanWaiting, changed, urlog, ulog, Word, LineOk}
+use Rattle.model.proofs.Core.{CoreOf, shape-owners}
 
 -- a value that is right without an option stays so when an older option goes
 or-left : (o older : Option ℕ) {v : ℕ} → or (first o older) v ≡ v → or o v ≡ v
@@ -165,7 +164,7 @@ unfolding entered lastTo holderIn
 begin-step m home working b rs t core thread idle =
     record {
       shape =
-          shape-opened (core .shape) (length-set (m .opened) t true)
+          shape-owners (core .shape) refl (length-set (m .opened) t true)
           (every-implied (LineOk (m .opened)) (LineOk (set (m .opened) t true)) (m .lines)
           (line-begun (m .opened) t (omega (arith, core .shape .threads))) (core .shape .linesOk));
       valid = core .valid;

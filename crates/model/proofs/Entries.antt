@@ -1,8 +1,8 @@
 -- The entries of one word in a log buffer.
-use Prim.Native.Nat.{ℕ, zero, suc, _+_, _≤_}
+use Prim.Native.Nat.{ℕ, zero, suc, _+_, _*_, _/_, _≤_}
 use mathlib.Core.Path.{_≡_, refl, sym, ap, _∙_}
 use mathlib.Core.Bool.{Bool, true, false, cond, _&&_}
-use mathlib.Core.List.{List, [], _∷_, _++_, map, append-nil}
+use mathlib.Core.List.{List, [], _∷_, _++_, append-nil}
 use native.Mathlib.Decide.{ℕ-discrete, decLt, decLe}
 use native.Mathlib.Omega.{arith}
 use borrow.Author.Tests.{eq-eqb, ne-eqb, lt-ltb, le-ltb, le-leb, lt-leb}
@@ -12,24 +12,23 @@ use Rattle.log.specs.Holding.{Every}
 use Rattle.parts.specs.declared.Entry.{Entry}
 use Rattle.parts.specs.Listed.{listed}
 use Rattle.parts.specs.Waiting.{discarded, amended, withRedo}
-use Rattle.model.specs.Lists.{keep}
+use Rattle.model.specs.Lists.{keep, isEmpty}
+use Rattle.model.specs.Machine.{wordsOf}
 use Rattle.model.specs.Consistent.{entriesOf}
+use Rattle.model.proofs.Lists.{cond-ap}
 
 -- of two lists on end those are kept that are kept of each
 pub keep-append : {A : Type 0} (f : A → Bool) (xs ys : List A) → keep f (xs ++ ys) ≡ keep f xs ++ keep f ys
 unfolding keep
 keep-append f [] ys = refl
-keep-append {A} f (x ∷ xs) ys =
-    elim (f x) as (λ (t : Bool). cond t (x ∷ keep f (xs ++ ys)) (keep f (xs ++ ys)) ≡ cond t (x ∷ keep f xs) (keep f xs) ++ keep f ys) [
-      | true ↦ ap (λ (r : List A). x ∷ r) (keep-append f xs ys)
-      | false ↦ keep-append f xs ys
-    ]
+keep-append f (x ∷ xs) ys =
+    rw (keep-append f xs ys) (sym (cond-ap (λ r. r ++ keep f ys) (f x) (x ∷ keep f xs) (keep f xs)))
 
 pub entries-append : (w : ℕ) (es fs : List Entry) → entriesOf w (es ++ fs) ≡ entriesOf w es ++ entriesOf w fs
 entries-append w es fs = keep-append (λ e. eqb (e .word) w) es fs
 
 -- the word's own discarded entry is its oldest
-discarded-own : (w : ℕ) (es : List Entry) → entriesOf w (discarded w es) ≡ drop 1 (entriesOf w es)
+pub discarded-own : (w : ℕ) (es : List Entry) → entriesOf w (discarded w es) ≡ drop 1 (entriesOf w es)
 unfolding keep discarded
 discarded-own w [] = refl
 discarded-own w (e ∷ es) =
@@ -39,21 +38,13 @@ discarded-own w (e ∷ es) =
     ]
 
 -- another word's is none of its
-discarded-other : (w u : ℕ) (es : List Entry) → (w ≡ u → ⊥) → entriesOf w (discarded u es) ≡ entriesOf w es
+pub discarded-other : (w u : ℕ) (es : List Entry) → (w ≡ u → ⊥) → entriesOf w (discarded u es) ≡ entriesOf w es
 unfolding keep discarded
 discarded-other w u [] h = refl
 discarded-other w u (e ∷ es) h =
     elim (ℕ-discrete (e .word) u) [
       | yes p ↦ rw (eq-eqb (e .word) u p, ne-eqb (e .word) w (λ q. h (sym q ∙ p)))
       | no ne ↦ rw (ne-eqb (e .word) u ne) (ap (λ (r : List Entry). cond (eqb (e .word) w) (e ∷ r) r) (discarded-other w u es h))
-    ]
-
-pub entries-discarded : (w u : ℕ) (es : List Entry)
-    → entriesOf w (discarded u es) ≡ cond (eqb w u) (drop 1 (entriesOf w es)) (entriesOf w es)
-entries-discarded w u es =
-    elim (ℕ-discrete w u) [
-      | yes p ↦ rw (eq-eqb w u p) (rw (← p) (discarded-own w es))
-      | no ne ↦ rw (ne-eqb w u ne) (discarded-other w u es ne)
     ]
 
 pub entries-amended : (w u v : ℕ) (es : List Entry) → (w ≡ u → ⊥) → entriesOf w (amended u v es) ≡ entriesOf w es
@@ -128,10 +119,7 @@ kept-once f base (suc n) w =
     ∙ elim (ℕ-discrete (base + n) w) [
       | yes p ↦
           rw (le-leb base w (omega arith), le-ltb w (base + n) (omega arith), lt-ltb w (base + suc n) (omega arith), p)
-          (elim (f w) as (λ (t : Bool). keep (λ v. eqb v w) (cond t (w ∷ []) []) ≡ cond t (w ∷ []) []) [
-            | true ↦ rw (eq-eqb w w refl)
-            | false ↦ refl
-          ])
+          (rw (cond-ap (keep (λ v. eqb v w)) (f w) (w ∷ []) [], eq-eqb w w refl))
       | no ne ↦
           let same : ltb w (base + suc n) ≡ ltb w (base + n) =
           elim (decLt w (base + n)) [
@@ -146,16 +134,21 @@ kept-once f base (suc n) w =
           rw (same, gone) (append-nil (cond (leb base w && (ltb w (base + n) && f w)) (w ∷ []) []))
     ]
 
--- the entries of a word among entries made of words
-pub entries-made : (make : ℕ → Entry) → ((v : ℕ) → make v .word ≡ v) → (w : ℕ) (vs : List ℕ)
-    → entriesOf w (map make vs) ≡ map make (keep (λ v. eqb v w) vs)
-unfolding keep
-entries-made make named w [] = refl
-entries-made make named w (v ∷ vs) =
-    let r : List Entry = entriesOf w (map make vs) in
-    let k : List ℕ = keep (λ u. eqb u w) vs in
-    ap (λ (u : ℕ). cond (eqb u w) (make v ∷ r) r) (named v)
-    ∙ elim (eqb v w) as (λ (t : Bool). cond t (make v ∷ r) r ≡ map make (cond t (v ∷ k) k)) [
-      | true ↦ ap (λ (es : List Entry). make v ∷ es) (entries-made make named w vs)
-      | false ↦ entries-made make named w vs
+-- of the words of a line likewise
+pub kept-line : (f : ℕ → Bool) (i w : ℕ)
+    → keep (λ v. eqb v w) (keep f (wordsOf i)) ≡ cond (eqb (w / 8) i) (cond (f w) (w ∷ []) []) []
+kept-line f i w =
+    kept-once f (8 * i) 8 w
+    ∙ elim (ℕ-discrete (w / 8) i) [
+      | yes e ↦ rw (le-leb (8 * i) w (omega arith), lt-ltb w (8 * i + 8) (omega arith), eq-eqb (w / 8) i e)
+      | no ne ↦
+          elim (decLe (8 * i) w) [
+            | yes p ↦ rw (le-leb (8 * i) w p, le-ltb w (8 * i + 8) (omega arith), ne-eqb (w / 8) i ne)
+            | no q ↦ rw (lt-leb (8 * i) w (omega arith), ne-eqb (w / 8) i ne)
+          ]
     ]
+
+-- a choice by whether it is there
+pub once-or-none : {A : Type 0} (b : Bool) (w : ℕ) (x y : A) → cond (isEmpty (cond b (w ∷ []) [])) x y ≡ cond b y x
+once-or-none true w x y = refl
+once-or-none false w x y = refl

@@ -1,16 +1,18 @@
 -- What a list of stores leaves in a word: the value of the last store to it, if there is one.
 use Prim.Native.Nat.{ℕ, _<_}
 use mathlib.Core.Path.{_≡_, refl, sym, _∙_, ap}
-use mathlib.Core.Bool.{true, false, cond}
-use mathlib.Core.List.{List, [], _∷_, _++_}
+use mathlib.Core.Bool.{Bool, true, false, cond}
+use mathlib.Core.List.{List, [], _∷_, _++_, map}
 use mathlib.Core.Option.{Option, none, some, Option·getD}
 use native.Mathlib.Decide.{ℕ-discrete}
-use borrow.Author.Tests.{eq-eqb, ne-eqb}
+use borrow.Author.Tests.{eq-eqb, ne-eqb, eqb-true}
 use lib.Dec.{eqb}
 use lib.ListN.{length, getD}
 use Rattle.log.specs.Stores.{Store, stored}
 use Rattle.log.proofs.Stored.{stored-none, stored-one, stored-append, length-stored}
+use Rattle.model.specs.Lists.{keep, isEmpty}
 use Rattle.model.specs.Book.{updated, settled}
+use Rattle.model.proofs.Lists.{cond-ap}
 
 -- the first of two that is there
 abbrev pub first : Option ℕ → Option ℕ → Option ℕ
@@ -51,12 +53,26 @@ last-append w [] ys = sym (first-none (lastTo w ys))
 last-append w (x ∷ xs) ys =
     ap (λ (o : Option ℕ). first o (onlyTo w x)) (last-append w xs ys) ∙ first-assoc (lastTo w ys) (lastTo w xs) (onlyTo w x)
 
+-- the last store to a word, where words get their values by f
+pub last-made : (w : ℕ) (f : ℕ → ℕ) (ws : List ℕ)
+    → lastTo w (map (λ v. record { at = v; value = f v }) ws)
+    ≡ cond (isEmpty (keep (λ v. eqb v w) ws)) none (some (f w))
+unfolding keep lastTo
+last-made w f [] = refl
+last-made w f (v ∷ ws) =
+    ap (λ o. first o (cond (eqb v w) (some (f v)) none)) (last-made w f ws) ∙ go (eqb v w) refl (keep (λ u. eqb u w) ws)
+  where
+    go : (b : Bool) → eqb v w ≡ b → (vs : List ℕ)
+        → first (cond (isEmpty vs) none (some (f w))) (cond b (some (f v)) none) ≡ cond (isEmpty (cond b (v ∷ vs) vs)) none (some (f w))
+    go true e [] = ap (λ n. some (f n)) (eqb-true v w e)
+    go true e (u ∷ vs) = refl
+    go false e [] = refl
+    go false e (u ∷ vs) = refl
+
 -- a word after one store
 store-word : (w : ℕ) (home : List ℕ) (s : Store) → w < length home → getD (stored home (s ∷ [])) w 0 ≡ or (onlyTo w s) (getD home w 0)
 store-word w home s h =
-    let v : ℕ = getD home w 0 in
-    stored-one home s w h
-    ∙ elim (eqb (s .at) w) as (λ t. cond t (s .value) v ≡ or (cond t (some (s .value)) none) v) [ true ↦ refl | false ↦ refl ]
+    stored-one home s w h ∙ sym (cond-ap (λ o. or o (getD home w 0)) (eqb (s .at) w) (some (s .value)) none)
 
 -- a word after a list of stores
 pub stored-word : (w : ℕ) (home : List ℕ) (ss : List Store) → w < length home

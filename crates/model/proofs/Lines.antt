@@ -1,7 +1,7 @@
 -- What changes of the lines do to the state, the holder and the dirty flag of each word.
 use Prim.Native.Nat.{ℕ, zero, suc, _/_, _%_, _<_}
-use mathlib.Core.Path.{_≡_, refl, sym, ap, _∙_}
-use mathlib.Core.Bool.{Bool, true, false, cond}
+use mathlib.Core.Path.{_≡_, refl, sym, ap, _∙_, subst}
+use mathlib.Core.Bool.{Bool, cond}
 use mathlib.Core.List.{List, [], _∷_, map}
 use native.Mathlib.Decide.{ℕ-discrete}
 use native.Mathlib.Omega.{arith}
@@ -19,7 +19,7 @@ use Rattle.model.specs.Lists.{keep, isEmpty}
 use Rattle.model.specs.Machine.{lineOf, stateIn, holderIn, dirtyIn, statesAs, changed, marked, wordsMarked, allLogged}
 use Rattle.model.specs.Consistent.{entriesOf}
 use Rattle.model.specs.Steps.{released}
-use Rattle.model.proofs.Lists.{every-mapped}
+use Rattle.model.proofs.Lists.{every-mapped, keep-map, empty-map}
 
 -- a line after one line is changed
 pub line-changed : (f : Line → Line) (i : ℕ) (ls : List Line) (k : ℕ) → i < length ls
@@ -30,6 +30,13 @@ line-changed f i ls k h =
       | yes e ↦ rw (eq-eqb k i e, e) (getD-set-same ls i (f (lineOf ls i)) freeLine h)
       | no ne ↦ rw (ne-eqb k i ne) (getD-set-other ls i k (f (lineOf ls i)) freeLine ne)
     ]
+
+-- what holds of it then, by whether it is the one
+pub changed-line : (P : Line → Type 0) (f : Line → Line) (i : ℕ) (ls : List Line) (k : ℕ) → i < length ls
+    → (k ≡ i → P (f (lineOf ls k))) → ((k ≡ i → ⊥) → P (lineOf ls k)) → P (lineOf (changed f i ls) k)
+changed-line P f i ls k h here there =
+    subst P (sym (line-changed f i ls k h))
+    (elim (ℕ-discrete k i) [ yes e ↦ rw (eq-eqb k i e, ← e) (here e) | no ne ↦ rw (ne-eqb k i ne) (there ne) ])
 
 -- what a change keeps of the line that it changes stays in every line
 pub kept-changed : {A : Type 0} (get : Line → A) (f : Line → Line) (i : ℕ) (ls : List Line) (k : ℕ) → ((line : Line) → get (f line) ≡ get line)
@@ -122,22 +129,13 @@ unfolding allLogged wordsMarked
 logged-words [] ls = refl
 logged-words (e ∷ es) ls = logged-words es (marked URLog (e .word) ls)
 
-entry-words : (w : ℕ) (es : List Entry) → isEmpty (keep (λ v. eqb v w) (map (λ e. e .word) es)) ≡ isEmpty (entriesOf w es)
-unfolding keep
-entry-words w [] = refl
-entry-words w (e ∷ es) =
-    elim (eqb (e .word) w) as (λ (t : Bool). isEmpty (cond t (e .word ∷ keep (λ v. eqb v w) (map (λ e. e .word) es))
-    (keep (λ v. eqb v w) (map (λ e. e .word) es))) ≡ isEmpty (cond t (e ∷ entriesOf w es) (entriesOf w es))) [
-      | true ↦ refl
-      | false ↦ entry-words w es
-    ]
-
 pub state-logged : (es : List Entry) (ls : List Line) (w : ℕ) → Every (λ e. e .word / 8 < length ls) es
     → stateIn (allLogged es ls) w ≡ cond (isEmpty (entriesOf w es)) (stateIn ls w) URLog
 state-logged es ls w within =
     ap (λ l. stateIn l w) (logged-words es ls)
     ∙ state-words URLog (map (λ e. e .word) es) ls w (omega arith) (every-mapped (λ v. v / 8 < length ls) (λ e. e .word) es within)
-    ∙ ap (λ (t : Bool). cond t (stateIn ls w) URLog) (entry-words w es)
+    ∙ ap (λ (t : Bool). cond t (stateIn ls w) URLog)
+    (ap isEmpty (keep-map (λ v. eqb v w) (λ e. e .word) es) ∙ empty-map (λ e. e .word) (entriesOf w es))
 
 pub holder-logged : (es : List Entry) (ls : List Line) (w : ℕ) → holderIn (allLogged es ls) w ≡ holderIn ls w
 holder-logged es ls w = ap (λ l. holderIn l w) (logged-words es ls) ∙ holder-words URLog (map (λ e. e .word) es) ls w

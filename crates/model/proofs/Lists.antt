@@ -1,14 +1,16 @@
 -- Laws of lists and tests: a property of every element, the first ones of a mapped list, the halves of a test.
 use Prim.Native.Nat.{ℕ, zero, suc, _<_}
 use native.Mathlib.Omega.{arith}
-use mathlib.Core.Path.{_≡_, refl, ap}
-use mathlib.Core.Bool.{Bool, true, false, cond, _&&_, false≢true}
+use mathlib.Core.Path.{_≡_, refl, sym, ap}
+use mathlib.Core.Bool.{Bool, true, false, cond, _&&_, _||_, false≢true}
 use mathlib.Core.List.{List, [], _∷_, _++_, map}
+use mathlib.Core.Logic.{_⊎_, inl, inr}
+use mathlib.Mathlib.Data.Bool.Basic.{or-eq-false-eq-eq-false-and-eq-false}
 use lib.ListN.{take}
 use Rattle.log.specs.Holding.{Every}
 use Rattle.log.proofs.Holding.{every-append}
 use Rattle.parts.specs.Listed.{listed}
-use Rattle.model.specs.Lists.{keep}
+use Rattle.model.specs.Lists.{keep, isEmpty}
 
 -- a property that follows from another holds of every element that has the other
 pub every-implied : {A : Type 0} (P Q : A → Type 0) (xs : List A) → ((x : A) → P x → Q x) → Every P xs → Every Q xs
@@ -52,6 +54,29 @@ take-map f zero xs = refl
 take-map f (suc n) [] = refl
 take-map {B} f (suc n) (x ∷ xs) = ap (λ (r : List B). f x ∷ r) (take-map f n xs)
 
+-- two lists that together are empty: the first is
+pub first-empty : {A : Type 0} (xs ys : List A) → xs ++ ys ≡ [] → xs ≡ []
+first-empty [] ys e = refl
+first-empty (x ∷ xs) ys e = cc
+
+-- a function of a choice is the choice of its values
+pub cond-ap : {A B : Type 0} (f : A → B) (t : Bool) (a b : A) → f (cond t a b) ≡ cond t (f a) (f b)
+cond-ap f true a b = refl
+cond-ap f false a b = refl
+
+-- of images those are kept whose elements are
+pub keep-map : {A B : Type 0} (f : B → Bool) (g : A → B) (xs : List A)
+    → keep f (map g xs) ≡ map g (keep (λ x. f (g x)) xs)
+unfolding keep
+keep-map f g [] = refl
+keep-map f g (x ∷ xs) =
+    let kept = keep (λ y. f (g y)) xs in
+    rw (keep-map f g xs) (sym (cond-ap (map g) (f (g x)) (x ∷ kept) kept))
+
+pub empty-map : {A B : Type 0} (g : A → B) (xs : List A) → isEmpty (map g xs) ≡ isEmpty xs
+empty-map g [] = refl
+empty-map g (x ∷ xs) = refl
+
 -- the halves of a test that passes
 pub both-left : (a b : Bool) → (a && b) ≡ true → a ≡ true
 both-left true b h = refl
@@ -60,3 +85,15 @@ both-left false b h = absurd (false≢true h)
 pub both-right : (a b : Bool) → (a && b) ≡ true → b ≡ true
 both-right true b h = h
 both-right false b h = absurd (false≢true h)
+
+-- both halves
+pub halves : {a b : Bool} → (a && b) ≡ true → (a ≡ true) × (b ≡ true)
+halves {a} {b} h = (both-left a b h, both-right a b h)
+
+-- and the halves of one that fails
+pub neither : {a b : Bool} → (a || b) ≡ false → (a ≡ false) × (b ≡ false)
+neither {a} {b} = or-eq-false-eq-eq-false-and-eq-false a b .0
+
+pub either-false : (a b : Bool) → (a && b) ≡ false → (a ≡ false) ⊎ (b ≡ false)
+either-false true b e = inr e
+either-false false b e = inl refl

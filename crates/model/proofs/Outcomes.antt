@@ -1,13 +1,13 @@
 -- What a step hands back, by its rows, its stores and its next state: refused, done or cut. The code of each step computes one of these.
 use Prim.Native.Nat.{ℕ, _-_, _≤_, _<_}
-use mathlib.Core.Path.{_≡_, refl, sym, _∙_, ap}
+use mathlib.Core.Path.{_≡_, refl, sym, _∙_}
 use mathlib.Core.List.{List, _++_}
 use lib.ListN.{length, take}
 use Rattle.log.specs.Region.{slotsOf}
 use Rattle.log.proofs.Holding.{every-append}
 use Rattle.model.specs.Machine.{Machine, Memory, lostMachine}
-use Rattle.model.specs.Plan.{Put, Op, putsOf, refused, planned, Outcome, written, performed, carriedOut}
-use Rattle.model.specs.Refusals.{Row, unless, numberOf}
+use Rattle.model.specs.Plan.{Put, Op, putsOf, planned, written, performed, carriedOut}
+use Rattle.model.specs.Refusals.{Row, numberOf}
 use Rattle.model.specs.Step.{begin, store, logUndo, logRedo, evict, writeBack, commit, deleteOldest, recover}
 use Rattle.model.specs.Step.{Step, firstRows, ownRows, workOf, planOf, taken, stepped}
 use Rattle.model.proofs.Performing.{cleared, performed-all, performed-cut}

@@ -1,5 +1,5 @@
 -- The stores of a plan, made under a supply: all of them, or the first few and a lost machine. Stores to home, log and head may stand in any order.
-use Prim.Native.Nat.{ℕ, zero, suc, _+_, _-_, _≤_, _<_}
+use Prim.Native.Nat.{ℕ, suc, _+_, _-_, _≤_, _<_}
 use mathlib.Core.Path.{_≡_, refl, sym, _∙_, ap}
 use mathlib.Core.List.{List, [], _∷_, _++_, map, append-nil, append-assoc, map-append}
 use native.Mathlib.Nat.{add-zero}
@@ -69,21 +69,16 @@ appends-home [] = refl
 appends-home (h ∷ hs) = appends-home hs
 
 -- the memory after stores, then others
-home-then : (ps qs : List Put) → homePart (ps ++ qs) ≡ homePart ps ++ homePart qs
-unfolding homePart
-home-then [] qs = refl
-home-then (inHome s ∷ ps) qs = ap (λ (ss : List Store). s ∷ ss) (home-then ps qs)
-home-then (inLog s ∷ ps) qs = home-then ps qs
-
-log-then : (ps qs : List Put) → logPart (ps ++ qs) ≡ logPart ps ++ logPart qs
-unfolding logPart
-log-then [] qs = refl
-log-then (inHome s ∷ ps) qs = log-then ps qs
-log-then (inLog s ∷ ps) qs = ap (λ (ss : List Store). s ∷ ss) (log-then ps qs)
+parts-then : (ps qs : List Put)
+    → (homePart (ps ++ qs) ≡ homePart ps ++ homePart qs) × (logPart (ps ++ qs) ≡ logPart ps ++ logPart qs)
+unfolding homePart logPart
+parts-then [] qs = (refl, refl)
+parts-then (inHome s ∷ ps) qs = (ap (λ (ss : List Store). s ∷ ss) (parts-then ps qs .0), parts-then ps qs .1)
+parts-then (inLog s ∷ ps) qs = (parts-then ps qs .0, ap (λ (ss : List Store). s ∷ ss) (parts-then ps qs .1))
 
 pub written-then : (mem : Memory) (ps qs : List Put) (mid working : List ℕ) → written mem (ps ++ qs) working ≡ written (written mem ps mid) qs working
 unfolding written
-written-then mem ps qs mid working = simp (home-then, log-then, stored-append)
+written-then mem ps qs mid working = rw (parts-then ps qs .0, parts-then ps qs .1) (simp stored-append)
 
 -- stores to home alone, and stores to the log alone
 home-of : (hs : List Store) → (homePart (map inHome hs) ≡ hs) × (logPart (map inHome hs) ≡ [])

@@ -1,5 +1,5 @@
 -- What a plan does to a live machine, under any supply; and a plan after a plan.
-use Prim.Native.Nat.{ℕ, _+_, _-_, _≤_, _<_}
+use Prim.Native.Nat.{ℕ, _+_, _-_, _<_}
 use mathlib.Core.Path.{_≡_, refl, sym, _∙_, ap, subst}
 use mathlib.Core.Bool.{true}
 use mathlib.Core.List.{List, _++_, append-nil}
@@ -12,7 +12,7 @@ use Rattle.log.proofs.Stored.{take-append, length-stored}
 use Rattle.model.specs.Machine.{Machine, Memory}
 use Rattle.model.specs.Plan.{Op, Put, putsOf, logPart, Plan, refused, planned, Outcome, written, performed, carriedOut, preceded, andThen}
 use Rattle.model.specs.Book.{Book}
-use Rattle.model.proofs.Worlds.{Kept, Live, Ready, live, dark}
+use Rattle.model.proofs.Core.{Kept, Live, Ready, live, dark}
 use Rattle.model.proofs.Performing.{appendsIn, puts-then, appends-then, written-then, cleared, performed-all, performed-cut}
 
 -- What the stores ps of a plan do: after fewer than all of them a power cut is safe, and after all the machine is live.

@@ -1,10 +1,9 @@
--- What a record appended to the log changes for recovery.
+-- The records of a word in a log: their redos, whose the open ones are; what a record appended changes for recovery.
 use Prim.Native.Nat.{ℕ, _<_}
 use mathlib.Core.Path.{_≡_, refl, sym, ap, ap₂, _∙_}
 use mathlib.Core.Bool.{Bool, true, false, cond, _||_, or-assoc, or-false, true≢false, false≢true}
 use mathlib.Core.List.{List, [], _∷_, _++_, map, append-nil, append-assoc}
-use mathlib.Core.Option.{Option, none}
-use mathlib.Mathlib.Data.Bool.Basic.{or-eq-false-eq-eq-false-and-eq-false}
+use mathlib.Core.Option.{none}
 use native.Mathlib.Omega.{arith}
 use borrow.Author.Tests.{eq-eqb, ne-eqb, eqb-true}
 use lib.Dec.{eqb}
@@ -19,8 +18,32 @@ use Rattle.parts.specs.Lines.{nobody}
 use Rattle.model.specs.Lists.{any}
 use Rattle.model.specs.Readings.{isCommit, closed, records}
 use Rattle.model.specs.Recovery.{redoOfClosed, undoOfOpen, redoWrites, undoWrites}
+use Rattle.model.proofs.Lists.{neither}
 use Rattle.model.proofs.LastTo.{first, lastTo, last-append}
-use Rattle.model.proofs.Own.{redos, writesTo, isCommitRecord, Own}
+
+-- the redos of all records, closed or not, in log order
+unfoldable pub redos : List Record → List Store
+redos [] = []
+redos (UndoRedo t w u r ∷ rs) = record { at = w; value = r } ∷ redos rs
+redos (Redo t w r ∷ rs) = record { at = w; value = r } ∷ redos rs
+redos (Commit t ∷ rs) = redos rs
+
+-- the record is of word w
+abbrev pub writesTo : ℕ → Record → Bool
+writesTo w (UndoRedo t v u r) = eqb v w
+writesTo w (Redo t v r) = eqb v w
+writesTo w (Commit t) = false
+
+-- the record is a commit
+abbrev pub isCommitRecord : Record → Bool
+isCommitRecord (UndoRedo t w u r) = false
+isCommitRecord (Redo t w r) = false
+isCommitRecord (Commit t) = true
+
+-- every open record of word w is of thread h
+abbrev pub Own : ℕ → ℕ → List Record → Type 0
+Own w h [] = Unit {0}
+Own w h (r ∷ rs) = (writesTo w r ≡ true → closed (threadOf r) rs ≡ false → threadOf r ≡ h) × Own w h rs
 
 -- a test that one of two lists passes, and two tests that both fail
 pub any-append : {A : Type 0} (f : A → Bool) (xs ys : List A) → any f (xs ++ ys) ≡ (any f xs || any f ys)
@@ -29,11 +52,11 @@ any-append f [] ys = refl
 any-append f (x ∷ xs) ys = ap (λ (c : Bool). f x || c) (any-append f xs ys) ∙ sym (or-assoc (f x) (any f xs) (any f ys))
 
 pub both-fail : (c d : Bool) → (c || d) ≡ false → (c ≡ false) × (d ≡ false)
-both-fail c d = or-eq-false-eq-eq-false-and-eq-false c d .0
+both-fail c d = neither
 
 -- a test that a list fails, its first part fails
 pub fails-before : {A : Type 0} (f : A → Bool) (xs ys : List A) → any f (xs ++ ys) ≡ false → any f xs ≡ false
-fails-before f xs ys fails = both-fail (any f xs) (any f ys) (sym (any-append f xs ys) ∙ fails) .0
+fails-before f xs ys fails = neither (sym (any-append f xs ys) ∙ fails) .0
 
 -- a record that is no commit closes nothing
 closed-data : (t : ℕ) (rs : List Record) (r : Record) → isCommitRecord r ≡ false → closed t (rs ++ (r ∷ [])) ≡ closed t rs
@@ -56,33 +79,19 @@ or-by true d e shut unshut = sym (shut refl)
 or-by false d e shut unshut = unshut refl
 
 -- what a record's undo and its redo store depends only on whether the record is closed
-undo-alike : (r : Record) (a b : List Record) → closed (threadOf r) a ≡ closed (threadOf r) b → undoOfOpen r a ≡ undoOfOpen r b
-undo-alike (UndoRedo t w u v) a b e = rw e
-undo-alike (Redo t w v) a b e = refl
-undo-alike (Commit t) a b e = refl
-
-redo-alike : (r : Record) (a b : List Record) → closed (threadOf r) a ≡ closed (threadOf r) b → redoOfClosed r a ≡ redoOfClosed r b
-redo-alike (UndoRedo t w u v) a b e = rw e
-redo-alike (Redo t w v) a b e = rw e
-redo-alike (Commit t) a b e = refl
+alike : (r : Record) (a b : List Record) → closed (threadOf r) a ≡ closed (threadOf r) b
+    → (undoOfOpen r a ≡ undoOfOpen r b) × (redoOfClosed r a ≡ redoOfClosed r b)
+alike (UndoRedo t w u v) a b e = (rw e, rw e)
+alike (Redo t w v) a b e = (refl, rw e)
+alike (Commit t) a b e = (refl, refl)
 
 -- a record at the end that is no commit is the first to be undone
 pub undo-of-data : (rs : List Record) (r : Record) → isCommitRecord r ≡ false → undoWrites (rs ++ (r ∷ [])) ≡ undoOfOpen r [] ++ undoWrites rs
 unfolding undoWrites
 undo-of-data [] r d = sym (append-nil (undoOfOpen r []))
 undo-of-data (x ∷ rs) r d =
-    ap₂ (λ (a b : List Store). a ++ b) (undo-of-data rs r d) (undo-alike x (rs ++ (r ∷ [])) rs (closed-data (threadOf x) rs r d))
+    ap₂ (λ (a b : List Store). a ++ b) (undo-of-data rs r d) (alike x (rs ++ (r ∷ [])) rs (closed-data _ rs r d) .0)
     ∙ append-assoc (undoOfOpen r []) (undoWrites rs) (undoOfOpen x rs)
-
--- an undo+redo record at the end is the first to be undone
-pub undo-of-undoRedo : (rs : List Record) (t w u r : ℕ)
-    → undoWrites (rs ++ (UndoRedo t w u r ∷ [])) ≡ record { at = w; value = u } ∷ undoWrites rs
-unfolding any
-undo-of-undoRedo rs t w u r = undo-of-data rs (UndoRedo t w u r) refl
-
--- a redo record at the end is not undone
-pub undo-of-redo : (rs : List Record) (t w r : ℕ) → undoWrites (rs ++ (Redo t w r ∷ [])) ≡ undoWrites rs
-undo-of-redo rs t w r = undo-of-data rs (Redo t w r) refl
 
 -- what a redo record at the end leaves, several leave
 redos-leave : {A : Type 0} (g : List Record → A) (t : ℕ) (f : ℕ → ℕ) → ((rs : List Record) (w : ℕ) → g (rs ++ (Redo t w (f w) ∷ [])) ≡ g rs)
@@ -94,7 +103,7 @@ redos-leave g t f one rs (w ∷ ws) =
 -- several redo records at the end are not undone
 pub undo-of-redos : (rs : List Record) (t : ℕ) (f : ℕ → ℕ) (ws : List ℕ)
     → undoWrites (rs ++ map (λ w. Redo t w (f w)) ws) ≡ undoWrites rs
-undo-of-redos rs t f ws = redos-leave undoWrites t f (λ rs w. undo-of-redo rs t w (f w)) rs ws
+undo-of-redos rs t f ws = redos-leave undoWrites t f (λ rs w. undo-of-data rs (Redo t w (f w)) refl) rs ws
 
 -- a record at the end that is no commit closes nothing and is not closed
 pub redo-of-data : (rs : List Record) (r : Record) → isCommitRecord r ≡ false → redoWrites (rs ++ (r ∷ [])) ≡ redoWrites rs
@@ -103,7 +112,7 @@ redo-of-data [] (UndoRedo t w u v) d = refl
 redo-of-data [] (Redo t w v) d = refl
 redo-of-data [] (Commit t) d = refl
 redo-of-data (x ∷ rs) r d =
-    ap₂ (λ (a b : List Store). a ++ b) (redo-alike x (rs ++ (r ∷ [])) rs (closed-data (threadOf x) rs r d)) (redo-of-data rs r d)
+    ap₂ (λ (a b : List Store). a ++ b) (alike x (rs ++ (r ∷ [])) rs (closed-data _ rs r d) .1) (redo-of-data rs r d)
 
 -- nor do several redo records change what is redone
 pub redo-of-redos : (rs : List Record) (t : ℕ) (f : ℕ → ℕ) (ws : List ℕ)
@@ -124,15 +133,11 @@ unfolding redos
 redos-commit t rs = redos-append rs (Commit t ∷ []) ∙ append-nil (redos rs)
 
 -- the open records of a word stay its holder's if one more of them is
-own-end : (w h : ℕ) (rs : List Record) (r : Record) → Own w h rs → (writesTo w r ≡ true → threadOf r ≡ h) → Own w h (rs ++ (r ∷ []))
+pub own-end : (w h : ℕ) (rs : List Record) (r : Record) → Own w h rs → (writesTo w r ≡ true → threadOf r ≡ h)
+    → Own w h (rs ++ (r ∷ []))
 own-end w h [] r own mine = (λ hit unclosed. mine hit, tt)
 own-end w h (x ∷ rs) r own mine =
     (λ hit unclosed. own .0 hit (fails-before (isCommit (threadOf x)) rs (r ∷ []) unclosed), own-end w h rs r (own .1) mine)
-
--- the open records of a word stay its holder's
-pub own-data : (w h : ℕ) (rs : List Record) (r : Record) → Own w h rs → isCommitRecord r ≡ false
-    → (writesTo w r ≡ true → threadOf r ≡ h) → Own w h (rs ++ (r ∷ []))
-own-data w h rs r own d mine = own-end w h rs r own mine
 
 -- and several redo records of one thread: those of w are of its holder
 pub own-redos : (w h : ℕ) (rs : List Record) (t : ℕ) (f : ℕ → ℕ) (ws : List ℕ) → Own w h rs
@@ -140,10 +145,6 @@ pub own-redos : (w h : ℕ) (rs : List Record) (t : ℕ) (f : ℕ → ℕ) (ws :
 own-redos w h rs t f [] own mine = rw append-nil own
 own-redos w h rs t f (v ∷ ws) own mine =
     rw append-snoc at (own-redos w h (rs ++ (Redo t v (f v) ∷ [])) t f ws (own-end w h rs (Redo t v (f v)) own (λ hit. mine .0 (eqb-true v w hit))) (mine .1))
-
--- a commit leaves fewer records open
-pub own-commit : (w h t : ℕ) (rs : List Record) → Own w h rs → Own w h (rs ++ (Commit t ∷ []))
-own-commit w h t rs own = own-end w h rs (Commit t) own (λ hit. absurd (false≢true hit))
 
 -- the holder's commit closes the records of its word, and that of another thread closes none
 closed-own : (w t : ℕ) (r : Record) (rs : List Record) → Own w t (r ∷ rs) → writesTo w r ≡ true
@@ -166,76 +167,66 @@ as-closed w hit true a b on off = refl
 as-closed w true false a b on off = absurd (false≢true (on refl))
 as-closed w false false a b on off = off refl
 
--- a record that is closed or of another word is not undone in w
-undo-closed : (w : ℕ) (r : Record) (later : List Record) → (writesTo w r ≡ true → closed (threadOf r) later ≡ true)
-    → lastTo w (undoOfOpen r later) ≡ none
-unfolding lastTo
-undo-closed w (UndoRedo t v u r) later h =
-    as-closed w (eqb v w) (closed t later) [] (record { at = v; value = u } ∷ []) h (λ miss. rw miss)
-undo-closed w (Redo t v r) later h = refl
-undo-closed w (Commit t) later h = refl
-
--- and its redo, if it is of w, is made
-redo-closed : (w : ℕ) (r : Record) (later : List Record) → (writesTo w r ≡ true → closed (threadOf r) later ≡ true)
-    → lastTo w (redoOfClosed r later) ≡ lastTo w (redos (r ∷ []))
+-- a record that is closed or of another word is not undone in w, and its redo, if it is of w, is made
+shut : (w : ℕ) (r : Record) (later : List Record) → (writesTo w r ≡ true → closed (threadOf r) later ≡ true)
+    → (lastTo w (undoOfOpen r later) ≡ none) × (lastTo w (redoOfClosed r later) ≡ lastTo w (redos (r ∷ [])))
 unfolding lastTo redos
-redo-closed w (UndoRedo t v u r) later h =
-    as-closed w (eqb v w) (closed t later) (record { at = v; value = r } ∷ []) [] h (λ miss. rw miss)
-redo-closed w (Redo t v r) later h =
-    as-closed w (eqb v w) (closed t later) (record { at = v; value = r } ∷ []) [] h (λ miss. rw miss)
-redo-closed w (Commit t) later h = refl
+shut w (UndoRedo t v u r) later h = (
+  as-closed w (eqb v w) (closed t later) [] (record { at = v; value = u } ∷ []) h (λ miss. rw miss),
+  as-closed w (eqb v w) (closed t later) (record { at = v; value = r } ∷ []) [] h (λ miss. rw miss),
+)
+shut w (Redo t v r) later h =
+    (refl, as-closed w (eqb v w) (closed t later) (record { at = v; value = r } ∷ []) [] h (λ miss. rw miss))
+shut w (Commit t) later h = (refl, refl)
 
 -- so what a record leaves in w depends only on whether it is closed if it is of w
-same-closed : (w : ℕ) (r : Record) (g : List Record → List Store) (o : Option ℕ)
-    → ((a b : List Record) → closed (threadOf r) a ≡ closed (threadOf r) b → g a ≡ g b)
-    → ((later : List Record) → (writesTo w r ≡ true → closed (threadOf r) later ≡ true) → lastTo w (g later) ≡ o)
-    → (a b : List Record) → (writesTo w r ≡ true → closed (threadOf r) a ≡ closed (threadOf r) b) → lastTo w (g a) ≡ lastTo w (g b)
-same-closed w r g o alike shut a b same = by (writesTo w r) refl
+same-closed : (w : ℕ) (r : Record) (a b : List Record)
+    → (writesTo w r ≡ true → closed (threadOf r) a ≡ closed (threadOf r) b)
+    → (lastTo w (undoOfOpen r a) ≡ lastTo w (undoOfOpen r b))
+    × (lastTo w (redoOfClosed r a) ≡ lastTo w (redoOfClosed r b))
+same-closed w r a b same = by (writesTo w r) refl
   where
-    by : (hit : Bool) → writesTo w r ≡ hit → lastTo w (g a) ≡ lastTo w (g b)
-    by true e = ap (lastTo w) (alike a b (same e))
-    by false e = shut a (λ hit. absurd (true≢false (sym hit ∙ e))) ∙ sym (shut b (λ hit. absurd (true≢false (sym hit ∙ e))))
+    by : (hit : Bool) → writesTo w r ≡ hit
+        → (lastTo w (undoOfOpen r a) ≡ lastTo w (undoOfOpen r b))
+        × (lastTo w (redoOfClosed r a) ≡ lastTo w (redoOfClosed r b))
+    by true e = (ap (lastTo w) (alike r a b (same e) .0), ap (lastTo w) (alike r a b (same e) .1))
+    by false e =
+        let one = shut w r a (λ hit. absurd (true≢false (sym hit ∙ e))) in
+        let two = shut w r b (λ hit. absurd (true≢false (sym hit ∙ e))) in
+        (one .0 ∙ sym (two .0), one .1 ∙ sym (two .1))
 
 -- two lists of stores on end say the same of w if their parts do
 last-both : (w : ℕ) (a b c d : List Store) → lastTo w a ≡ lastTo w c → lastTo w b ≡ lastTo w d → lastTo w (a ++ b) ≡ lastTo w (c ++ d)
 last-both w a b c d e f = last-append w a b ∙ ap₂ first f e ∙ sym (last-append w c d)
 
 -- the commit of another thread than the holder changes nothing for the word
-pub undo-of-other : (w h t : ℕ) (rs : List Record) → Own w h rs → (t ≡ h → ⊥)
-    → lastTo w (undoWrites (rs ++ (Commit t ∷ []))) ≡ lastTo w (undoWrites rs)
-unfolding undoWrites
-undo-of-other w h t [] own apart = refl
-undo-of-other w h t (r ∷ rs) own apart =
-    last-both w (undoWrites (rs ++ (Commit t ∷ []))) (undoOfOpen r (rs ++ (Commit t ∷ []))) (undoWrites rs) (undoOfOpen r rs)
-    (undo-of-other w h t rs (own .1) apart)
-    (same-closed w r (undoOfOpen r) none (undo-alike r) (undo-closed w r) (rs ++ (Commit t ∷ [])) rs (closed-other w h t r rs own apart))
-
-pub redo-of-other : (w h t : ℕ) (rs : List Record) → Own w h rs → (t ≡ h → ⊥)
-    → lastTo w (redoWrites (rs ++ (Commit t ∷ []))) ≡ lastTo w (redoWrites rs)
-unfolding redoWrites
-redo-of-other w h t [] own apart = refl
-redo-of-other w h t (r ∷ rs) own apart =
-    last-both w (redoOfClosed r (rs ++ (Commit t ∷ []))) (redoWrites (rs ++ (Commit t ∷ []))) (redoOfClosed r rs) (redoWrites rs)
-    (same-closed w r (redoOfClosed r) (lastTo w (redos (r ∷ []))) (redo-alike r) (redo-closed w r) (rs ++ (Commit t ∷ [])) rs
-    (closed-other w h t r rs own apart))
-    (redo-of-other w h t rs (own .1) apart)
+pub of-other : (w h t : ℕ) (rs : List Record) → Own w h rs → (t ≡ h → ⊥)
+    → (lastTo w (undoWrites (rs ++ (Commit t ∷ []))) ≡ lastTo w (undoWrites rs))
+    × (lastTo w (redoWrites (rs ++ (Commit t ∷ []))) ≡ lastTo w (redoWrites rs))
+unfolding undoWrites redoWrites
+of-other w h t [] own apart = (refl, refl)
+of-other w h t (r ∷ rs) own apart =
+    let all : List Record = rs ++ (Commit t ∷ []) in
+    let this = same-closed w r all rs (closed-other w h t r rs own apart) in
+    let rest = of-other w h t rs (own .1) apart in (
+      last-both w (undoWrites all) (undoOfOpen r all) (undoWrites rs) (undoOfOpen r rs) (rest .0) (this .0),
+      last-both w (redoOfClosed r all) (redoWrites all) (redoOfClosed r rs) (redoWrites rs) (this .1) (rest .1),
+    )
 
 -- the holder's commit closes all records of the word: none is undone, and the newest redo counts
-pub undo-of-own : (w t : ℕ) (rs : List Record) → Own w t rs → lastTo w (undoWrites (rs ++ (Commit t ∷ []))) ≡ none
-unfolding undoWrites lastTo
-undo-of-own w t [] own = refl
-undo-of-own w t (r ∷ rs) own =
-    last-both w (undoWrites (rs ++ (Commit t ∷ []))) (undoOfOpen r (rs ++ (Commit t ∷ []))) [] []
-    (undo-of-own w t rs (own .1)) (undo-closed w r (rs ++ (Commit t ∷ [])) (closed-own w t r rs own))
-
-pub redo-of-own : (w t : ℕ) (rs : List Record) → Own w t rs
-    → lastTo w (redoWrites (rs ++ (Commit t ∷ []))) ≡ lastTo w (redos rs)
-unfolding redoWrites redos
-redo-of-own w t [] own = refl
-redo-of-own w t (r ∷ rs) own =
-    last-both w (redoOfClosed r (rs ++ (Commit t ∷ []))) (redoWrites (rs ++ (Commit t ∷ []))) (redos (r ∷ [])) (redos rs)
-    (redo-closed w r (rs ++ (Commit t ∷ [])) (closed-own w t r rs own)) (redo-of-own w t rs (own .1))
-    ∙ ap (lastTo w) (sym (redos-append (r ∷ []) rs))
+pub of-own : (w t : ℕ) (rs : List Record) → Own w t rs
+    → (lastTo w (undoWrites (rs ++ (Commit t ∷ []))) ≡ none)
+    × (lastTo w (redoWrites (rs ++ (Commit t ∷ []))) ≡ lastTo w (redos rs))
+unfolding undoWrites redoWrites redos lastTo
+of-own w t [] own = (refl, refl)
+of-own w t (r ∷ rs) own =
+    let all : List Record = rs ++ (Commit t ∷ []) in
+    let this = shut w r all (closed-own w t r rs own) in
+    let rest = of-own w t rs (own .1) in (
+      last-both w (undoWrites all) (undoOfOpen r all) [] [] (rest .0) (this .0),
+      last-both w (redoOfClosed r all) (redoWrites all) (redos (r ∷ [])) (redos rs) (this .1) (rest .1)
+          ∙ ap (lastTo w) (sym (redos-append (r ∷ []) rs)),
+    )
 
 -- and no record of it is open, so that any thread may take the word
 pub own-closed : (w t h : ℕ) (rs : List Record) → Own w t rs → Own w h (rs ++ (Commit t ∷ []))

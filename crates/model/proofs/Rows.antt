@@ -1,9 +1,9 @@
 -- Rows of refusals: the number of the first that applies, where none applies, and what it means that there is room.
 use Prim.Native.Nat.{ℕ, _+_, _≤_, _<_}
-use mathlib.Core.Path.{_≡_, refl, sym, _∙_, ap}
-use mathlib.Core.Bool.{Bool, true, false, cond, _&&_}
+use mathlib.Core.Path.{_≡_, refl, sym, ap}
+use mathlib.Core.Bool.{Bool, true, false, cond}
 use mathlib.Core.List.{List, [], _∷_, _++_}
-use mathlib.Core.Logic.{_⊎_, inl, inr, ⊎-elim}
+use mathlib.Core.Logic.{⊎-elim}
 use native.Mathlib.Omega.{arith}
 use borrow.Author.Tests.{ltb-false, le-ltb}
 use lib.Dec.{ltb}
@@ -19,9 +19,9 @@ use Rattle.model.specs.Machine.{Machine, Memory, freeSlots}
 use Rattle.model.specs.Plan.{Plan, refused}
 use Rattle.model.specs.Verdict.{verdict}
 use Rattle.model.specs.Refusals.{nothing, Row, row, unless, numberOf, noRoom}
-use Rattle.model.specs.Steps.{undoRecords, redoRecords, storeRecords, oldestRows, evictRecords, commitRecords, verdictRows}
+use Rattle.model.specs.Steps.{undoRecords, redoRecords, oldestRows, verdictRows}
 use Rattle.model.specs.Step.{Step, begin, store, logUndo, logRedo, evict, writeBack, commit, deleteOldest, recover, firstRows, ownRows}
-use Rattle.model.proofs.Lists.{every-left}
+use Rattle.model.proofs.Lists.{every-left, either-false}
 
 -- no row applies
 abbrev pub None : List Row → Type 0
@@ -95,10 +95,6 @@ guard (r ∷ rows) p positive = pick (r .applies) refl (guard rows p (positive .
 pub record Room (m : Machine) (n : ℕ) : Type 0 where
   pub free : n ≤ freeSlots m
   pub numbered : m .span .tail ≤ numbers → m .span .tail + n ≤ numbers
-
-either-false : (a b : Bool) → (a && b) ≡ false → (a ≡ false) ⊎ (b ≡ false)
-either-false true b e = inr e
-either-false false b e = inl refl
 
 pub room : (m : Machine) (mem : Memory) (n : ℕ) → None (noRoom m mem n) → Room m n
 unfolding noRoom

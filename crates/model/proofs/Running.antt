@@ -1,52 +1,47 @@
--- The run of a list of steps, step after step, and what a step leaves of its supply.
+-- What a step leaves by the stores that it made, and the run of a list of steps, step after step.
 use Prim.Native.Nat.{ℕ, suc, _-_, _≤_}
 use mathlib.Core.Path.{_≡_, refl, ap}
-use mathlib.Core.Bool.{Bool, true, false, cond}
 use mathlib.Core.List.{List, [], _∷_, _++_}
 use native.Mathlib.Decide.{decLe}
 use native.Mathlib.Omega.{arith}
-use lib.Dec.{leb}
 use lib.ListN.{length, take, length-take}
-use lib.Seq.{take-nil}
+use lib.Seq.{take-all, take-nil}
+use Rattle.log.specs.Stores.{stored}
 use Rattle.log.specs.Region.{slotsOf}
+use Rattle.log.proofs.Stored.{stored-none}
 use Rattle.model.specs.Machine.{Machine, Memory}
-use Rattle.model.specs.Plan.{Put, putsOf, Plan, refused, planned, Outcome, performed, plannedPuts, carriedOut}
+use Rattle.model.specs.Plan.{Put, putsOf, homePart, logPart, Plan, refused, planned, Outcome}
+use Rattle.model.specs.Plan.{written, plannedPuts, carriedOut}
 use Rattle.model.specs.Step.{Step, recover, planOf, taken, stepped, putsMade}
 use Rattle.model.specs.Run.{Timed, World, outcome, after, HomeCommitted, Faithful, ran, answersOf, storesOf}
 use Rattle.model.proofs.Performing.{performed-all, performed-cut}
 
--- no step hands back more than its supply
-left-performed : (c a : ℕ) (mem : Memory) (ps : List Put) (next : Machine) (working : List ℕ) → performed c a mem ps next working .left ≤ c
-unfolding performed
-left-performed c a mem ps next working = pick (leb (length ps) c) _ _ (omega arith) (omega arith)
-  where
-    pick : (t : Bool) (a b : Outcome) → a .left ≤ c → b .left ≤ c → cond t a b .left ≤ c
-    pick true a b h k = h
-    pick false a b h k = k
+-- What a step hands back of its supply c and leaves of home and log, by the stores that it made.
+pub record Leaves (c : ℕ) (mem : Memory) (o : Outcome) (ps : List Put) : Type 0 where
+  pub most : o .left ≤ c
+  pub counted : length ps ≡ c - o .left
+  pub home : o .memory .home ≡ stored (mem .home) (homePart ps)
+  pub log : o .memory .log ≡ stored (mem .log) (logPart ps)
 
-left-carried : (c : ℕ) (m : Machine) (mem : Memory) (n : ℕ) (p : Plan) → carriedOut c m mem n p .left ≤ c
-unfolding carriedOut
-left-carried c m mem n (refused k) = omega arith
-left-carried c m mem n (planned a ops next working) = left-performed c a mem _ next working
-
-pub left-within : (s : Step) (c : ℕ) (m : Machine) (mem : Memory) → stepped s c m mem .left ≤ c
-unfolding stepped
-left-within s c m mem = left-carried c (taken s m) mem (m .span .tail) (planOf s m mem)
-
--- the stores that a step makes are as many as are taken off its supply
-puts-carried : (c : ℕ) (m : Machine) (mem : Memory) (n : ℕ) (p : Plan) → length (take c (plannedPuts mem n p)) ≡ c - carriedOut c m mem n p .left
-unfolding carriedOut plannedPuts
-puts-carried c m mem n (refused k) = rw take-nil (omega arith)
-puts-carried c m mem n (planned a ops next working) =
+carried : (c : ℕ) (m : Machine) (mem : Memory) (n : ℕ) (p : Plan) → Leaves c mem (carriedOut c m mem n p) (take c (plannedPuts mem n p))
+unfolding carriedOut plannedPuts written homePart logPart
+carried c m mem n (refused k) =
+    rw take-nil
+    (record { most = omega arith; counted = omega arith; home = rw (stored-none (mem .home)); log = rw (stored-none (mem .log)) })
+carried c m mem n (planned a ops next working) =
     let ps : List Put = putsOf (slotsOf (mem .log)) n ops in
     elim (decLe (length ps) c) [
-      | yes h ↦ rw (performed-all c a mem ps next working h, length-take) (omega arith)
-      | no h ↦ rw (performed-cut c a mem ps next working (omega arith), length-take) (omega arith)
+      | yes h ↦
+          rw (performed-all c a mem ps next working h, take-all c ps h)
+          (record { most = omega arith; counted = omega arith; home = refl; log = refl })
+      | no h ↦
+          rw (performed-cut c a mem ps next working (omega arith))
+          (record { most = omega arith; counted = rw length-take (omega arith); home = refl; log = refl })
     ]
 
-pub puts-counted : (s : Step) (c : ℕ) (m : Machine) (mem : Memory) → length (putsMade s c m mem) ≡ c - stepped s c m mem .left
+pub leaves : (s : Step) (c : ℕ) (m : Machine) (mem : Memory) → Leaves c mem (stepped s c m mem) (putsMade s c m mem)
 unfolding stepped putsMade
-puts-counted s c m mem = puts-carried c (taken s m) mem (m .span .tail) (planOf s m mem)
+leaves s c m mem = carried c (taken s m) mem (m .span .tail) (planOf s m mem)
 
 -- one list after another: the world, the answers, the stores
 pub ran-append : (w : World) (xs ys : List Timed) → ran w (xs ++ ys) ≡ ran (ran w xs) ys

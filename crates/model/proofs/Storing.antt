@@ -1,13 +1,13 @@
 -- A store: a line is claimed, and a value filed.
-use Prim.Native.Nat.{ℕ, zero, suc, _*_, _/_, _%_, _<_, _≤_}
+use Prim.Native.Nat.{ℕ, _/_, _%_, _<_, _≤_}
 use mathlib.Core.Path.{_≡_, refl, sym, _∙_, ap, subst}
 use mathlib.Core.Bool.{Bool, true, false, cond, not, _&&_, true≢false, false≢true}
 use mathlib.Core.List.{List, [], _∷_, _++_, map, append-nil}
-use mathlib.Core.Logic.{_⊎_, inl, inr}
+use mathlib.Core.Logic.{_⊎_, inl, inr, ⊎-elim}
 use mathlib.Core.Option.{Option, none, some}
 use native.Mathlib.Decide.{ℕ-discrete, decLe}
 use native.Mathlib.Omega.{arith}
-use borrow.Author.Tests.{eq-eqb, ne-eqb, eqb-true, le-leb, lt-leb}
+use borrow.Author.Tests.{eq-eqb, ne-eqb, eqb-true, le-leb, lt-leb, not-false}
 use lib.Dec.{eqb, leb}
 use lib.ListN.{length, getD, take, drop, set, length-append, length-set, length-drop, take-append-drop}
 use lib.Seq.{getD-set-same, getD-set-other}
@@ -18,24 +18,27 @@ use Rattle.log.proofs.Holding.{every-append}
 use Rattle.parts.specs.declared.Entry.{Entry}
 use Rattle.parts.specs.declared.Line.{Line}
 use Rattle.parts.specs.Lines.{nobody}
-use Rattle.parts.specs.States.{Clean, Dirty, URLog, ULog, stateAt, withState}
+use Rattle.parts.specs.States.{Clean, Dirty, URLog, ULog, stateAt}
 use Rattle.parts.specs.Waiting.{withRedo}
 use Rattle.model.specs.Lists.{keep, isEmpty}
-use Rattle.model.specs.Machine.{Machine, Memory, withLines, isOpen, lineOf, stateIn, holderIn, dirtyIn, statesAs, changed, marked, allLogged}
+use Rattle.model.specs.Machine.{Machine, Memory, withLines, isOpen, lineOf, stateIn, holderIn, dirtyIn, changed}
+use Rattle.model.specs.Machine.{marked, allLogged}
 use Rattle.model.specs.Consistent.{entriesOf}
 use Rattle.model.specs.Steps.{undoRedoRecord, undosLogged, storeLogs, storedAs, storeNext, heldByAnother}
 use Rattle.model.specs.Recovery.{redoWrites, undoWrites}
 use Rattle.model.specs.Step.{store}
 use Rattle.model.specs.Book.{Book, updated, entered}
+use Rattle.model.proofs.Lists.{every-implied, every-left, first-empty, either-false}
 use Rattle.model.proofs.LastTo.{or, lastTo, last-append}
-use Rattle.model.proofs.Own.{redos, Own}
-use Rattle.model.proofs.Records.{own-free}
-use Rattle.model.proofs.Lines.{line-changed, length-changed, every-changed}
+use Rattle.model.proofs.Records.{redos, Own, own-free}
+use Rattle.model.proofs.Lines.{line-changed, changed-line, length-changed, every-changed}
 use Rattle.model.proofs.Lines.{state-marked, holder-marked, dirty-marked, length-marked, state-logged, holder-logged, dirty-logged}
-use Rattle.model.proofs.Entries.{entries-append, entries-discarded, length-discarded, every-discarded}
-use Rattle.model.proofs.Entries.{entries-amended, entries-amended-own, length-amended, every-amended}
-use Rattle.model.proofs.Core.{Says, recent, says, Newest, State, Holding, Word, EntryOk, LineOk, At, Core, CoreOf, Appends, crash-all, shape-lines, shape-words}
-use Rattle.model.proofs.Logging.{lines-marked, undos-logged, undos-safe}
+use Rattle.model.proofs.Entries.{entries-append, discarded-own, discarded-other, length-discarded}
+use Rattle.model.proofs.Entries.{every-discarded, entries-amended, entries-amended-own, length-amended}
+use Rattle.model.proofs.Entries.{every-amended}
+use Rattle.model.proofs.Core.{Says, recent, says, Newest, State, Holding, Word, EntryOk, LineOk, At, AtLine}
+use Rattle.model.proofs.Core.{Core, CoreOf, Appends, crash-all, shape-lines, shape-words}
+use Rattle.model.proofs.Logging.{lines-marked, undos-step}
 
 -- the line of a word gets its dirty flag, or keeps it: if it had none, its recent records were none
 newest-claimed : (w : ℕ) (d d′ : Bool) (rs : List Record) (hm x : ℕ) → (d ≡ true → d′ ≡ true) → Newest (says w d rs) hm x → Newest (says w d′ rs) hm x
@@ -125,22 +128,16 @@ module _ {words : ℕ} {opened : List Bool} {ls : List Line} {us ds : List Entry
             (λ h ok. record { states = ok .states; holder = inr (thread, began) }));
         valid = core .valid;
         at = λ u h.
-            subst (Of u) (sym (line-changed (takenBy t g) i ls (u / 8) line))
-            (elim (ℕ-discrete (u / 8) i) [
-              | yes e ↦
-                  rw (eq-eqb (u / 8) i e)
-                  (at-taken t u (s u) (getD home u 0) (getD working u 0) (lineOf ls i .holder) (lineOf ls i .dirty) (g (lineOf ls i))
-                  (stateAt (lineOf ls i .states) (u % 8)) (entriesOf u us) (entriesOf u ds) thread began free stays
-                  (subst (λ (k : ℕ). Of u (lineOf ls k)) e (core .at u h)))
-              | no ne ↦ rw (ne-eqb (u / 8) i ne) (core .at u h)
-            ]);
+            changed-line (Of u) (takenBy t g) i ls (u / 8) line
+            (λ e.
+            rw e
+            (at-taken t u _ _ _ (lineOf ls i .holder) (lineOf ls i .dirty) (g (lineOf ls i)) _ _ _ thread began free
+            stays (subst (λ (k : ℕ). Of u (lineOf ls k)) e (core .at u h))))
+            (λ ne. core .at u h);
       }
     where
-      -- what holds of word u, if `line` is its line
       Of : ℕ → Line → Type 0
-      Of u line =
-          At opened rs p u (s u) (getD home u 0) (getD working u 0) (line .holder) (line .dirty) (stateAt (line .states) (u % 8))
-          (entriesOf u us) (entriesOf u ds)
+      Of u = AtLine opened rs p u (s u) (getD home u 0) (getD working u 0) (entriesOf u us) (entriesOf u ds)
 
 -- The lines ls′ are ls but for the state of word w.
 record SameLines (opened : List Bool) (w : ℕ) (ls ls′ : List Line) : Type 0 where
@@ -155,22 +152,6 @@ record SameEntries (words limit w : ℕ) (es es′ : List Entry) : Type 0 where
   size : length es′ ≤ limit
   ok : Every (EntryOk words) es′
   entries : (u : ℕ) → (u ≡ w → ⊥) → entriesOf u es′ ≡ entriesOf u es
-
--- entries that stay as they are
-same-entries : {words limit w : ℕ} {es : List Entry} → length es ≤ limit → Every (EntryOk words) es → SameEntries words limit w es es
-same-entries size ok = record { size = size; ok = ok; entries = λ u ne. refl }
-
--- a word of a held line gets another state
-word-marked : (opened : List Bool) (st w : ℕ) (ls : List Line) → st < 4 → w / 8 < length ls → holderIn ls w < 8
-    → Every (LineOk opened) ls → SameLines opened w ls (marked st w ls)
-word-marked opened st w ls small within held ok =
-    record {
-      size = length-marked st w ls;
-      ok = lines-marked opened st w ls small held ok;
-      holder = holder-marked st w ls;
-      dirty = dirty-marked st w ls;
-      state = λ u ne. state-marked st w ls u small within ∙ rw (ne-eqb u w ne);
-    }
 
 -- a store filed in a thread's list
 abbrev filing : (ℕ → List Store) → ℕ → ℕ → ℕ → ℕ → List Store
@@ -255,10 +236,10 @@ module _ (home working : List ℕ) (b : Book) (rs : List Record) (m : Machine) (
   same-lines = record { size = refl; ok = core .shape .linesOk; holder = λ u. refl; dirty = λ u. refl; state = λ u ne. refl }
 
   same-undos : SameEntries (m .sizes .words) 16 w (m .buffers .undoRedo) (m .buffers .undoRedo)
-  same-undos = same-entries (core .shape .undos .size) (core .shape .undos .ok)
+  same-undos = record { size = core .shape .undos .size; ok = core .shape .undos .ok; entries = λ u ne. refl }
 
   same-redos : SameEntries (m .sizes .words) 32 w (m .buffers .redo) (m .buffers .redo)
-  same-redos = same-entries (core .shape .redos .size) (core .shape .redos .ok)
+  same-redos = record { size = core .shape .redos .size; ok = core .shape .redos .ok; entries = λ u ne. refl }
 
   -- the working value is filed anew
   filed-same : v ≡ getD working w 0 → CoreOf m home (set working w v) (entered (store t w v) b) rs
@@ -275,7 +256,13 @@ module _ (home working : List ℕ) (b : Book) (rs : List Record) (m : Machine) (
   marks : (st : ℕ) → st < 4 → SameLines (m .opened) w (m .lines) (marked st w (m .lines)) × (stateIn (marked st w (m .lines)) w ≡ st)
   marks st small =
       let line : w / 8 < length (m .lines) = omega (arith, core .shape .lineCount) in (
-        word-marked (m .opened) st w (m .lines) small line (omega arith) (core .shape .linesOk),
+        record {
+          size = length-marked st w (m .lines);
+          ok = lines-marked (m .opened) st w (m .lines) small (omega arith) (core .shape .linesOk);
+          holder = holder-marked st w (m .lines);
+          dirty = dirty-marked st w (m .lines);
+          state = λ u ne. state-marked st w (m .lines) u small line ∙ rw (ne-eqb u w ne);
+        },
         state-marked st w (m .lines) w small line ∙ rw (eq-eqb w w refl),
       )
 
@@ -296,13 +283,13 @@ module _ (home working : List ℕ) (b : Book) (rs : List Record) (m : Machine) (
       (record {
         size = omega (arith, length-discarded w (m .buffers .redo), core .shape .redos .size);
         ok = every-discarded (EntryOk (m .sizes .words)) w (m .buffers .redo) (core .shape .redos .ok);
-        entries = λ u ne. entries-discarded u w (m .buffers .redo) ∙ rw (ne-eqb u w ne);
+        entries = λ u ne. discarded-other u w (m .buffers .redo) ne;
       })
       (λ calm. cc)
       (State.changed e
       (marks Dirty (omega arith) .1)
       (entries-append w (m .buffers .undoRedo) (e ∷ []) ∙ rw (us, eq-eqb w w refl))
-      (entries-discarded w w (m .buffers .redo) ∙ rw (eq-eqb w w refl) ds)
+      (discarded-own w (m .buffers .redo) ∙ ds)
       refl
       refl
       undo
@@ -341,17 +328,6 @@ clean-empty (State.changed e a us ds own x undo dirty) c = cc
 clean-empty (State.urlog a us ds undo new) c = us
 clean-empty (State.ulog a us ds undo) c = us
 
--- two lists that together are empty: the first is
-first-empty : {A : Type 0} (xs ys : List A) → xs ++ ys ≡ [] → xs ≡ []
-first-empty [] ys e = refl
-first-empty (x ∷ xs) ys e = cc
-
--- what follows from a property of every element holds of the first k
-every-first : {A : Type 0} (P Q : A → Type 0) → ((x : A) → P x → Q x) → (k : ℕ) (xs : List A) → Every P xs → Every Q (take k xs)
-every-first P Q weaker zero xs every = tt
-every-first P Q weaker (suc k) [] every = tt
-every-first P Q weaker (suc k) (x ∷ xs) every = (weaker x (every .0), every-first P Q weaker k xs (every .1))
-
 -- what a store logs first leaves room for an entry of a Clean word, and is of other words
 logs-first : (n w : ℕ) (us : List Entry) → length us ≤ 16 → (n ≡ Clean → entriesOf w us ≡ [])
     → (n ≡ Clean → length (drop (cond (eqb n Clean && leb 16 (length us)) 1 0) us) < 16)
@@ -375,14 +351,8 @@ logs-first n w us size empty =
 -- a line that no other thread holds is free or the thread's
 not-another : (h t : ℕ) → not (eqb h nobody) && not (eqb h t) ≡ false → (h ≡ nobody) ⊎ (h ≡ t)
 not-another h t e =
-    elim (ℕ-discrete h nobody) [
-      | yes free ↦ inl free
-      | no taken ↦
-          elim (ℕ-discrete h t) [
-            | yes mine ↦ inr mine
-            | no other ↦ absurd (true≢false (rw (ne-eqb h nobody taken, ne-eqb h t other) at e))
-          ]
-    ]
+    ⊎-elim (λ free. inl (eqb-true h nobody (not-false _ free))) (λ mine. inr (eqb-true h t (not-false _ mine)))
+    (either-false (not (eqb h nobody)) (not (eqb h t)) e)
 
 module _ (m : Machine) (mem : Memory) (b : Book) (rs : List Record) (t w v : ℕ) (core : CoreOf m (mem .home) (mem .working) b rs)
     (thread : t < 8) (within : w < m .sizes .words) (began : isOpen m t ≡ true) (free : heldByAnother m t w ≡ false) where
@@ -423,16 +393,17 @@ module _ (m : Machine) (mem : Memory) (b : Book) (rs : List Record) (t w v : ℕ
       let k : ℕ = storeLogs m w false in
       let es : List Entry = take k (m .buffers .undoRedo) in
       let ls : List Line = claims (λ line. true) in
-      let whole : es ++ drop k (m .buffers .undoRedo) ≡ m .buffers .undoRedo = take-append-drop k (m .buffers .undoRedo) in
-      let logged : CoreOf (undosLogged k (withLines ls m)) (mem .home) (mem .working) b (rs ++ map undoRedoRecord es) =
-      undos-logged es (drop k (m .buffers .undoRedo)) (m .buffers .redo) ls rs (rw whole (claim-core (λ line. true) (λ d. refl))) in
+      let core′ = claim-core (λ line. true) (λ d. refl) in
+      let logged = undos-step (withLines ls m) (mem .home) (mem .working) b rs core′ k .core in
       let own : lineOf ls (w / 8) ≡ takenBy t (λ line. true) (lineOf (m .lines) (w / 8)) = claim (λ line. true) in
       let size : length ls ≡ length (m .lines) = length-changed (takenBy t (λ line. true)) (w / 8) (m .lines) in
       let first : (stateIn (m .lines) w ≡ Clean → length (drop k (m .buffers .undoRedo)) < 16) × (entriesOf w es ≡ []) =
       logs-first (stateIn (m .lines) w) w (m .buffers .undoRedo) (core .shape .undos .size) (clean-empty (core .at w within .word .state)) in
       let state : stateIn (allLogged es ls) w ≡ stateIn (m .lines) w =
       state-logged es ls w
-      (every-first (EntryOk (m .sizes .words)) (λ e. e .word / 8 < length ls) (λ e ok. omega (arith, core .shape .lineCount)) k (m .buffers .undoRedo) (core .shape .undos .ok))
+      (every-implied _ (λ e. e .word / 8 < length ls) es (λ e ok. omega (arith, core .shape .lineCount))
+      (every-left (EntryOk (m .sizes .words)) es (drop k (m .buffers .undoRedo))
+      (rw take-append-drop (core .shape .undos .ok))))
       ∙ ap (λ (l : List Entry). cond (isEmpty l) (stateIn ls w) URLog) (first .1)
       ∙ ap (λ (l : Line). stateAt (l .states) (w % 8)) own in
       stored-as (mem .home) (mem .working) b (rs ++ map undoRedoRecord es) (undosLogged k (withLines ls m)) logged t w v thread within
@@ -448,10 +419,8 @@ pub store-step : (m : Machine) (mem : Memory) (b : Book) (rs : List Record) (t w
     → Appends m (mem .home) b rs (map undoRedoRecord (take (storeLogs m w (eqb v (getD (mem .working) w 0))) (m .buffers .undoRedo)))
     (storeNext m mem t w v (eqb v (getD (mem .working) w 0))) (set (mem .working) w v) (entered (store t w v) b)
 store-step m mem b rs t w v core thread word began free =
-    let k : ℕ = storeLogs m w (eqb v (getD (mem .working) w 0)) in
-    let split = rw (← (take-append-drop k (m .buffers .undoRedo))) at core in
     record {
-      safe = λ n h. undos-safe n (take k (m .buffers .undoRedo)) (drop k (m .buffers .undoRedo)) (m .buffers .redo) (m .lines) rs split;
+      safe = undos-step m (mem .home) (mem .working) b rs core (storeLogs m w (eqb v (getD (mem .working) w 0))) .safe;
       core = by (eqb v (getD (mem .working) w 0)) refl;
     }
   where

@@ -1,33 +1,28 @@
 -- The claim about every list of steps.
-use Prim.Native.Nat.{ℕ, _+_, _%_, _^_, _≤_}
+use Prim.Native.Nat.{ℕ, _+_, _≤_}
 use mathlib.Core.Path.{_≡_, refl, sym, _∙_, ap, subst}
-use mathlib.Core.Bool.{Bool, true, false, cond, _&&_}
+use mathlib.Core.Bool.{Bool, true, false, cond}
 use mathlib.Core.List.{List, [], _∷_}
 use mathlib.Core.Logic.{_⊎_, inl, inr}
 use native.Mathlib.Omega.{arith}
-use borrow.Author.Tests.{leb-true}
-use lib.Dec.{leb, eqb}
+use lib.Dec.{eqb}
 use lib.ListN.{length, length-append}
 use Rattle.log.specs.declared.Record.{Record}
 use Rattle.log.specs.declared.Record.the-variants.{UndoRedo, Redo, Commit}
 use Rattle.log.specs.Stores.{Store}
-use Rattle.log.specs.Region.{numbers}
 use Rattle.log.proofs.Holding.{zeros}
 use Rattle.model.specs.Machine.{Machine, Memory}
-use Rattle.model.specs.Consistent.{isWidth, consistentWith}
+use Rattle.model.specs.Consistent.{consistentWith}
 use Rattle.model.specs.Readings.{closed}
 use Rattle.model.specs.Recovery.{redoWrites, undoWrites, redoOfClosed, undoOfOpen}
 use Rattle.model.specs.Step.{Step, begin, store, logUndo, logRedo, evict, writeBack, commit, deleteOldest, recover, stepped}
 use Rattle.model.specs.Book.{Book, openedBook, entered, noted}
-use Rattle.model.specs.Run.{Timed, World, after, HomeCommitted, Faithful, start, Sized, WholeListClaim, ran, Recoverable, RecoverableClaim}
-use Rattle.model.proofs.Lists.{both-left, both-right}
+use Rattle.model.specs.Run.{Timed, World, outcome, after, HomeCommitted, Faithful, start, Sized, WholeListClaim}
+use Rattle.model.specs.Run.{ran, Recoverable, RecoverableClaim}
 use Rattle.model.proofs.LastTo.{lastTo}
-use Rattle.model.proofs.Core.{Safe}
-use Rattle.model.proofs.Worlds.{Kept, Ready, live, dark, live-kept}
+use Rattle.model.proofs.Core.{Safe, Kept, Ready, live, dark, live-kept, width-limits}
 use Rattle.model.proofs.Plans.{Ends, finished, stopped}
-use Rattle.model.proofs.Guarded.{After}
-use Rattle.model.proofs.EachStep.{begin-ready, store-ready, logUndo-ready, logRedo-ready, evict-ready, writeBack-ready, commit-ready}
-use Rattle.model.proofs.EachStep.{delete-ready}
+use Rattle.model.proofs.EachStep.{After, begin-ready, lent-ready}
 use Rattle.model.proofs.Recovering.{recover-ends, recover-answer, recover-enough, recover-faithful}
 use Rattle.model.proofs.Consistency.{core-consistent}
 
@@ -42,11 +37,7 @@ ready-kept m mem b (dark lost kept) = kept
 -- a recovery writes nothing into the book
 recover-noted : (n : ℕ) (b : Book) → noted recover n b ≡ b
 unfolding noted entered
-recover-noted n b = pick (eqb n 0)
-  where
-    pick : (t : Bool) → cond t b b ≡ b
-    pick true = refl
-    pick false = refl
+recover-noted n b = elim (eqb n 0) as (λ t. cond t b b ≡ b) [ true ↦ refl | false ↦ refl ]
 
 recover-ready : {l : ℕ} (c : ℕ) (m : Machine) (mem : Memory) (b : Book) → Kept l mem (b .committed)
     → After l recover c m mem b
@@ -59,13 +50,13 @@ recover-ready {l} c m mem b kept = rw recover-noted (ended (recover-ends c m mem
 -- every step leaves the world ready
 step-ready : {l : ℕ} (s : Step) (c : ℕ) (m : Machine) (mem : Memory) (b : Book) → Ready l m mem b → After l s c m mem b
 step-ready (begin t) c m mem b ready = begin-ready c m mem b ready t
-step-ready (store t w v) c m mem b ready = store-ready c m mem b ready t w v
-step-ready logUndo c m mem b ready = logUndo-ready c m mem b ready
-step-ready logRedo c m mem b ready = logRedo-ready c m mem b ready
-step-ready (evict i) c m mem b ready = evict-ready c m mem b ready i
-step-ready (writeBack i) c m mem b ready = writeBack-ready c m mem b ready i
-step-ready (commit t) c m mem b ready = commit-ready c m mem b ready t
-step-ready deleteOldest c m mem b ready = delete-ready c m mem b ready
+step-ready (store t w v) c m mem b ready = lent-ready c m mem b ready (store t w v) refl refl refl
+step-ready logUndo c m mem b ready = lent-ready c m mem b ready logUndo refl refl refl
+step-ready logRedo c m mem b ready = lent-ready c m mem b ready logRedo refl refl refl
+step-ready (evict i) c m mem b ready = lent-ready c m mem b ready (evict i) refl refl refl
+step-ready (writeBack i) c m mem b ready = lent-ready c m mem b ready (writeBack i) refl refl refl
+step-ready (commit t) c m mem b ready = lent-ready c m mem b ready (commit t) refl refl refl
+step-ready deleteOldest c m mem b ready = lent-ready c m mem b ready deleteOldest refl refl refl
 step-ready recover c m mem b ready = recover-ready c m mem b (ready-kept m mem b ready)
 
 after-ready : {l : ℕ} (w : World) (s : Timed) → ReadyWorld l w → ReadyWorld l (after w s)
@@ -80,12 +71,8 @@ home-committed {l} w s kept e = subst Claim (sym e) ofRecover
   where
     Claim : Step → Type 0
     Claim st =
-        stepped st (s .supply) (w .machine) (w .memory) .answer ≡ 0
-        → HomeCommitted (record {
-          machine = stepped st (s .supply) (w .machine) (w .memory) .machine;
-          memory = stepped st (s .supply) (w .machine) (w .memory) .memory;
-          book = noted st (stepped st (s .supply) (w .machine) (w .memory) .answer) (w .book);
-        })
+        let timed : Timed = record { step = st; supply = s .supply } in
+        outcome w timed .answer ≡ 0 → HomeCommitted (after w timed)
 
     ofRecover : Claim recover
     ofRecover d i h =
@@ -97,9 +84,6 @@ faithful w [] ready = tt
 faithful w (s ∷ ss) ready =
     (home-committed w s (ready-kept (w .machine) (w .memory) (w .book) ready), faithful (after w s) ss (after-ready w s ready))
 
-narrow : (n : ℕ) → isWidth n ≡ true → n ≤ numbers
-narrow n e = let h = leb-true n 512 (both-left (leb n 512) (eqb (n % 8) 0) (both-right (leb 8 n) (leb n 512 && eqb (n % 8) 0) e)) in omega arith
-
 -- the buffers at the start: a fresh log holds no record
 start-kept : (l : ℕ) (home working : List ℕ) (m : Machine) → Sized l home working
     → Kept l (start m home working l .memory) (openedBook home .committed)
@@ -110,7 +94,9 @@ start-kept l home working m sized =
       head = 0;
       width = sized .width;
       working = sized .alike;
-      holds = zeros (length home) l (narrow (length home) (sized .width)) (sized .least) (sized .most);
+      holds =
+          zeros (length home) l (omega (arith, width-limits (length home) (sized .width) .1)) (sized .least)
+          (sized .most);
       safe = λ w h. refl;
     }
 
@@ -146,7 +132,7 @@ ready-sound : {l : ℕ} (m : Machine) (mem : Memory) (b : Book) → Ready l m me
     → (m .lost ≡ true) ⊎ (consistentWith m (mem .log) ≡ true)
 ready-sound m mem b (live world) =
     inr
-    (core-consistent m (mem .home) (mem .working) b (world .rs) (mem .log) (world .core) (world .width)
+    (core-consistent m (mem .home) (mem .working) b (world .rs) (world .core) (mem .log) (world .width)
     (rw (world .slots) (world .holds .least))
     (rw (world .slots) (world .holds .most))
     (world .holds .numbered)
@@ -155,18 +141,15 @@ ready-sound m mem b (live world) =
     (world .holds .first))
 ready-sound m mem b (dark lost kept) = inl lost
 
-enough-supply : {l : ℕ} (c : ℕ) (m : Machine) (mem : Memory) (b : Book) → Kept l mem (b .committed) → l + 1 ≤ c → stepped recover c m mem .answer ≡ 0
-enough-supply c m mem b kept h =
-    let few = few-writes (kept .rs) in
-    recover-enough c m mem b kept (rw length-append (omega (arith, kept .holds .room)))
-
 recoverable : {l : ℕ} (w : World) → ReadyWorld l w → Recoverable l w
 recoverable w ready =
     let kept = ready-kept (w .machine) (w .memory) (w .book) ready in
+    let few = few-writes (kept .rs) in
     record {
-      never-refused =
-          λ c. recover-answer c (w .machine) (w .memory) (w .book) kept;
-      done-with = λ c h. enough-supply c (w .machine) (w .memory) (w .book) kept h;
+      never-refused = λ c. recover-answer c (w .machine) (w .memory) (w .book) kept;
+      done-with = λ c h.
+          recover-enough c (w .machine) (w .memory) (w .book) kept
+          (rw length-append (omega (arith, kept .holds .room)));
       sound = ready-sound (w .machine) (w .memory) (w .book) ready;
     }
 

@@ -84,6 +84,6 @@ taken s m = cond (takesState s) m lostMachine
 unfoldable pub stepped : Step → ℕ → Machine → Memory → Outcome
 stepped s c m mem = carriedOut c (taken s m) mem (m .span .tail) (planOf s m mem)
 
--- The stores that it makes are the first c of its list; so many are taken off the count (`puts-counted`, proofs/Running).
+-- The stores that it makes are the first c of its list; so many are taken off the count (`leaves`, proofs/Running).
 unfoldable pub putsMade : Step → ℕ → Machine → Memory → List Put
 putsMade s c m mem = take c (plannedPuts mem (m .span .tail) (planOf s m mem))

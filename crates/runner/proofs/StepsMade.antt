@@ -15,7 +15,7 @@ use Rattle.model.specs.Plan.{Outcome}
 use Rattle.model.specs.Step.{Step, stepped}
 use Rattle.model.specs.Run.{Timed, World, outcome, after, ran, answersOf, storesOf}
 use Rattle.model.proofs.Lists.{both-left, both-right}
-use Rattle.model.proofs.Running.{left-within, ran-append, answers-append, stores-append, length-answers, length-stores}
+use Rattle.model.proofs.Running.{leaves, ran-append, answers-append, stores-append, length-answers, length-stores}
 use Rattle.runner.specs.Running.{Script, stepsOf, knownKinds, runnable, Report, atFirst, allMade, runOf}
 
 -- what is lent to a run that is not refused is equal in length
@@ -53,7 +53,7 @@ alike s answers stores e =
 
 -- a step that hands back an outcome of the model leaves no more than its supply
 pub left-of : (o : Outcome) (s : Step) (c : ℕ) (m : Machine) (mem : Memory) → o ≡ stepped s c m mem → o .left ≤ c
-left-of o s c m mem e = rw e (left-within s c m mem)
+left-of o s c m mem e = rw e (leaves s c m mem .most)
 
 -- a list whose first i places are filled, with place i filled too
 filled : (xs ys : List ℕ) (i v : ℕ) → length xs ≡ i → i < length ys

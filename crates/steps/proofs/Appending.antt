@@ -1,35 +1,46 @@
 -- What a step that only appends records hands back, once it is not refused.
-use Prim.Native.Nat.{ℕ, _+_, _-_, _*_, _≤_, _<_}
-use mathlib.Core.Path.{_≡_, sym, _∙_, ap}
+use Prim.Native.Nat.{ℕ, _-_, _*_, _≤_, _<_}
+use mathlib.Core.Path.{_≡_, sym, _∙_, ap, subst}
 use mathlib.Core.List.{List, map}
 use native.Mathlib.Omega.{arith}
-use lib.ListN.{length, take, replicate, length-map}
+use lib.ListN.{length, take, length-map}
 use Rattle.log.specs.declared.Record.{Record}
 use Rattle.log.specs.Stores.{Store, storedUnder}
-use Rattle.log.specs.Region.{numbers, slotsOf, recordsStores}
+use Rattle.log.specs.Region.{slotsOf, recordsStores}
 use Rattle.log.proofs.Appending.{size-of-records}
 use Rattle.model.specs.Machine.{Machine, Memory}
 use Rattle.model.specs.Plan.{inLog, append, putsOf, written}
-use Rattle.model.specs.Refusals.{numberOf}
-use Rattle.model.specs.Step.{Step, firstRows, ownRows, workOf, appended, stepped}
-use Rattle.model.proofs.Performing.{puts-append, written-log}
+use Rattle.model.specs.Step.{Step, stepped}
+use Rattle.model.proofs.Performing.{puts-append, written-log, cleared}
 use Rattle.model.proofs.Rows.{Room}
 use Rattle.model.proofs.Fit.{Fit}
 use Rattle.logging.proofs.Appending.{Appended}
 use Rattle.state.specs.declared.Made.{Made}
 use Rattle.state.specs.View.{view, shown}
-use Rattle.steps.proofs.Outcome.{IsCut, done-way, cut-way}
+use Rattle.steps.proofs.Outcome.{IsCut, Way, done-way, cut-way}
 
-module _ (s : Step) (c : ℕ) (m : Machine) (mem : Memory) (zero : numberOf (firstRows s m mem) ≡ 0) (n : ℕ)
-    (number : n ≡ numberOf (ownRows s m mem)) (none : n ≡ 0) (records : List Record) (next : Machine) (working : List ℕ)
-    (work : workOf s m mem ≡ appended records next working) (fits : Fit m mem) (room : Room m (length records)) where
+-- the same records, by another count
+pub appended-of : {c n rest : ℕ} {before log : List ℕ} (f : ℕ → List Record) (k l : ℕ) → k ≡ l → Appended c before n (f k) log rest
+    → Appended c before n (f l) log rest
+appended-of {c} {n} {rest} {before} {log} f k l e = subst (λ (j : ℕ). Appended c before n (f j) log rest) e
+
+-- such a step, the state being fit and its log having room
+pub record Appends (s : Step) (m : Machine) (mem : Memory) (records : List Record) (next : Machine) (working : List ℕ) : Type 0 where
+  pub way : Way s m mem (map append records) next working
+  pub fits : Fit m mem
+  pub room : Room m (length records)
+
+module _ {s : Step} {m : Machine} {mem : Memory} {records : List Record} {next : Machine} {working : List ℕ}
+    (appends : Appends s m mem records next working) (c : ℕ) where
   -- its stores, three for each record
   abbrev stores : List Store
   stores = recordsStores (slotsOf (mem .log)) (m .span .tail) records
 
   three : length stores ≡ 3 * length records
   three =
-      size-of-records (slotsOf (mem .log)) (m .span .tail) records (omega (arith, fits .slots, fits .clauses .fewest)) (room .numbered (fits .clauses .tail))
+      let fits = appends .fits in
+      size-of-records (slotsOf (mem .log)) (m .span .tail) records (omega (arith, fits .slots, fits .clauses .fewest))
+      (appends .room .numbered (fits .clauses .tail))
 
   made : putsOf (slotsOf (mem .log)) (m .span .tail) (map append records) ≡ map inLog stores
   made = puts-append (slotsOf (mem .log)) (m .span .tail) records
@@ -43,15 +54,14 @@ module _ (s : Step) (c : ℕ) (m : Machine) (mem : Memory) (zero : numberOf (fir
   left-by log after e = rw (e, made, written-log mem c stores after)
 
   -- done: the supply was enough
-  pub append-done : (r : Made) (log : List ℕ) → 3 * length records ≤ c → Appended c (mem .log) (m .span .tail) records log (r .left)
+  pub append-done : (k : ℕ) (r : Made) (log : List ℕ) → length records ≡ k → 3 * k ≤ c → Appended c (mem .log) (m .span .tail) records log (r .left)
       → r .answer ≡ 0 → view (r .state) ≡ next → shown r (mem .home) working log ≡ stepped s c m mem
-  append-done r log h a answer state =
-      done-way s c m mem zero n number none (map append records) next working work r (mem .home) log (rw size h) answer
-      (a .left ∙ ap (λ k. c - k) (three ∙ sym size)) state (left-by log working (a .log))
+  append-done k r log count h a answer state =
+      done-way (appends .way) c r (mem .home) log (rw (size, count) h) answer (a .left ∙ ap (λ n. c - n) (three ∙ sym size)) state
+      (left-by log working (a .log))
 
   -- cut: it was not
-  pub append-cut : (r : Made) (after log : List ℕ) (rest : ℕ) → c < 3 * length records → Appended c (mem .log) (m .span .tail) records log rest
-      → IsCut r → after ≡ replicate (length (mem .working)) 0 → shown r (mem .home) after log ≡ stepped s c m mem
-  append-cut r after log rest h a answer clear =
-      cut-way s c m mem zero n number none (map append records) next working work r (mem .home) log after (rw size h) answer clear
-      (left-by log (replicate (length (mem .working)) 0) (a .log))
+  pub append-cut : (k : ℕ) (r : Made) (after log : List ℕ) (rest : ℕ) → length records ≡ k → c < 3 * k
+      → Appended c (mem .log) (m .span .tail) records log rest → IsCut r → after ≡ cleared mem → shown r (mem .home) after log ≡ stepped s c m mem
+  append-cut k r after log rest count h a answer clear =
+      cut-way (appends .way) c r (mem .home) log after (rw (size, count) h) answer clear (left-by log (cleared mem) (a .log))

@@ -7,7 +7,7 @@ use native.Mathlib.Omega.{arith}
 use native.Mathlib.Decide.{decLt}
 use borrow.Author.Tests.{lt-ltb, ltb-false, eq-eqb, eqb-true}
 use lib.Dec.{eqb, ltb}
-use lib.ListN.{length, getD, set, replicate, length-append, length-map}
+use lib.ListN.{length, getD, set, length-append, length-map}
 use Rattle.log.specs.declared.Record.{Record}
 use Rattle.log.specs.declared.Record.the-variants.{Commit}
 use Rattle.log.specs.Stores.{Store, storedUnder}
@@ -25,22 +25,19 @@ use Rattle.model.specs.Lists.{upTo}
 use Rattle.model.specs.Machine.{Machine, Memory, lineOf, stateIn, holderIn, changed, marked, wordsMarked, allLogged}
 use Rattle.model.specs.Refusals.{numberOf, common, noRoom}
 use Rattle.model.specs.Steps.{newestWords, newestRedos, prepareRecords, prepareNext, released, commitRecords, commitRows, commitNext}
-use Rattle.model.specs.Step.{commit, stepped}
+use Rattle.model.specs.Step.{commit}
 use Rattle.model.proofs.Lists.{both-left, every-kept, every-listed}
 use Rattle.model.proofs.Lines.{holder-marked, holder-logged}
-use Rattle.model.proofs.Rows.{None, Room, room}
-use Rattle.model.proofs.Outcomes.{passed-own}
-use Rattle.model.proofs.Fit.{Fit}
+use Rattle.model.proofs.Rows.{None, none-apply, own-positive, room}
 use Rattle.logging.specs.Newest.{linesOf}
 use Rattle.logging.specs.Records.{commitRecordsOf}
 use Rattle.logging.proofs.Appending.{Appended}
 use Rattle.logging.proofs.Guards.{commit-of}
 use Rattle.state.specs.declared.Fields.{Fields}
-use Rattle.state.specs.declared.Made.{Made}
-use Rattle.state.specs.View.{view, memory, shown}
+use Rattle.state.specs.View.{view, memory}
 use Rattle.steps.specs.Committing.{HasEntries, Allowed}
-use Rattle.steps.proofs.Outcome.{width, common-fit, IsCut}
-use Rattle.steps.proofs.Appending.{append-done, append-cut}
+use Rattle.steps.proofs.Outcome.{width, common-fit}
+use Rattle.steps.proofs.Appending.{Appends}
 
 -- the number of records that a commit logs
 pub commit-size : (m : Machine) (mem : Memory) (t : ℕ)
@@ -156,52 +153,42 @@ sizes s mem sound =
       tail = all .tail;
     }
 
--- What a commit hands back, once it is not refused.
-module _ (s : Fields) (t c : ℕ) (home working log : List ℕ) (count : ℕ) (allowed : Allowed t count (view s) (memory home working log)) where
+-- A commit that is not refused.
+module _ (s : Fields) (t : ℕ) (home working log : List ℕ) (count : ℕ) (allowed : Allowed t count (view s) (memory home working log)) where
   abbrev mem : Memory
   mem = memory home working log
 
   abbrev records : List Record
   records = commitRecords (view s) mem t
 
-  fits : Fit (view s) mem
-  fits = common-fit (view s) mem (allowed .common)
-
   none : None (commitRows (view s) mem t)
-  none = passed-own (commit t) c (view s) mem (allowed .common) 0 (sym (allowed .own)) refl
-
-  pub commit-room : Room (view s) (length records)
-  commit-room = room (view s) mem (length records) (none .1 .1)
+  none = none-apply (commitRows (view s) mem t) (own-positive (commit t) (view s) mem) (allowed .own)
 
   pub known-thread : t < 8
   known-thread = omega (arith, ltb-false 7 t (none .0))
 
-  -- the records that were appended are those of the model
+  -- it appends its records
+  pub commit-appends : Appends (commit t) (view s) mem records (commitNext (view s) mem t) working
+  commit-appends =
+      record {
+        way = record { first = allowed .common; own = allowed .own; work = refl };
+        fits = common-fit (view s) mem (allowed .common);
+        room = room (view s) mem (length records) (none .1 .1);
+      }
+
+  -- those that the code appends
   same-records : commitRecordsOf (s .undos) (s .redos) (s .lines) working t ≡ records
   unfolding commitRecords prepareRecords newestRedos
   same-records =
       let size = sizes s mem (allowed .common) in
-      let e : length working ≡ s .words = fits .working in
+      let e : length working ≡ s .words = commit-appends .fits .working in
       commit-of (s .undos) (s .redos) (s .lines) working t
       (record { fewUndos = size .undos; fewRedos = size .redos; most = omega (arith, size .words); round = rw e (size .round) })
       ∙ (rw e (simp append-assoc))
 
-  -- their stores
   abbrev pub commitStores : List Store
   commitStores = recordsStores (slotsOf log) (s .tail) (commitRecordsOf (s .undos) (s .redos) (s .lines) working t)
 
-  module _ (after : List ℕ) (left : ℕ) (made : (left ≡ c - length commitStores) × (after ≡ storedUnder c log commitStores)) where
-    appended : Appended c log (s .tail) records after left
-    appended = let f = rw same-records at made in record { left = f .0; log = f .1 }
-
-    pub commit-done : (r : Fields) → 3 * count ≤ c → view r ≡ commitNext (view s) mem t
-        → shown (record { answer = 0; left = left; state = r }) home working after ≡ stepped (commit t) c (view s) mem
-    commit-done r h =
-        append-done (commit t) c (view s) mem (allowed .common) 0 (sym (allowed .own)) refl records (commitNext (view s) mem t) working refl fits commit-room
-        (record { answer = 0; left = left; state = r }) after (omega (arith, allowed .records)) appended refl
-
-    pub commit-cut : (r : Made) (clear : List ℕ) → c < 3 * count → IsCut r → clear ≡ replicate (length working) 0
-        → shown r home clear after ≡ stepped (commit t) c (view s) mem
-    commit-cut r clear h =
-        append-cut (commit t) c (view s) mem (allowed .common) 0 (sym (allowed .own)) refl records (commitNext (view s) mem t) working refl fits commit-room
-        r clear after left (omega (arith, allowed .records)) appended
+  pub commit-appended : {c left : ℕ} {after : List ℕ} → (left ≡ c - length commitStores) × (after ≡ storedUnder c log commitStores)
+      → Appended c log (s .tail) records after left
+  commit-appended made = let f = rw same-records at made in record { left = f .0; log = f .1 }

@@ -1,22 +1,22 @@
 -- What a delete hands back, once it is not refused: cut, or the head moves on.
-use Prim.Native.Nat.{ℕ, _+_, _-_, _<_}
-use mathlib.Core.Path.{_≡_, refl, sym, _∙_, ap}
-use mathlib.Core.List.{List, [], _∷_}
+use Prim.Native.Nat.{ℕ, _+_, _-_}
+use mathlib.Core.Path.{_≡_, refl, _∙_}
+use mathlib.Core.List.{List, [], _∷_, map}
 use native.Mathlib.Omega.{arith}
-use lib.ListN.{length, take, replicate, length-map}
+use lib.ListN.{length, take, length-map}
 use Rattle.log.specs.Stores.{Store, storedUnder}
 use Rattle.log.specs.Region.{slotsOf, headStores}
 use Rattle.log.proofs.Holding.{size-of-head}
 use Rattle.model.specs.Machine.{Machine, Memory}
-use Rattle.model.specs.Plan.{setHead, putsOf, written}
+use Rattle.model.specs.Plan.{inLog, setHead, putsOf, written}
 use Rattle.model.specs.Refusals.{numberOf, common}
 use Rattle.model.specs.Steps.{deleteRows, deleteNext}
 use Rattle.model.specs.Step.{deleteOldest, stepped}
-use Rattle.model.proofs.Performing.{puts-head, written-log}
+use Rattle.model.proofs.Performing.{puts-head, written-log, cleared}
 use Rattle.state.specs.declared.Fields.{Fields}
 use Rattle.state.specs.declared.Made.{Made}
 use Rattle.state.specs.View.{view, shown}
-use Rattle.steps.proofs.Outcome.{common-fit, IsCut, done-way, cut-way}
+use Rattle.steps.proofs.Outcome.{common-fit, IsCut, Way, done-way, cut-way}
 
 -- the state with the head moved on
 abbrev pub headMoved : Fields → Fields
@@ -33,32 +33,34 @@ headMoved s =
       redos = s .redos;
     }
 
-module _ (c : ℕ) (m : Machine) (mem : Memory) (zero : numberOf (common m mem) ≡ 0) (n : ℕ) (number : n ≡ numberOf (deleteRows m mem)) (none : n ≡ 0)
-    (log : List ℕ) (moved : log ≡ storedUnder c (mem .log) (headStores (slotsOf (mem .log)) (m .span .head + 1))) (r : Made) where
+module _ (c : ℕ) (m : Machine) (mem : Memory) (zero : numberOf (common m mem) ≡ 0) (none : numberOf (deleteRows m mem) ≡ 0) (r : Made) (log : List ℕ)
+    (moved : log ≡ storedUnder c (mem .log) (headStores (slotsOf (mem .log)) (m .span .head + 1))) where
+  way : Way deleteOldest m mem (setHead (m .span .head + 1) ∷ []) (deleteNext m) (mem .working)
+  way = record { first = zero; own = none; work = refl }
+
   -- its one store
   abbrev stores : List Store
   stores = headStores (slotsOf (mem .log)) (m .span .head + 1)
 
-  one : length (putsOf (slotsOf (mem .log)) (m .span .tail) (setHead (m .span .head + 1) ∷ [])) ≡ 1
+  made : putsOf (slotsOf (mem .log)) (m .span .tail) (setHead (m .span .head + 1) ∷ []) ≡ map inLog stores
+  made = puts-head (slotsOf (mem .log)) (m .span .tail) (m .span .head + 1)
+
+  one : length stores ≡ 1
   one =
       let f = common-fit m mem zero in
-      rw (puts-head, length-map) (size-of-head (slotsOf (mem .log)) (m .span .head + 1) (omega (arith, f .slots, f .clauses .fewest)))
+      size-of-head (slotsOf (mem .log)) (m .span .head + 1) (omega (arith, f .slots, f .clauses .fewest))
 
   left-by : (after : List ℕ) → record { home = mem .home; working = after; log = log }
       ≡ written mem (take c (putsOf (slotsOf (mem .log)) (m .span .tail) (setHead (m .span .head + 1) ∷ []))) after
-  left-by after = rw (moved, puts-head (slotsOf (mem .log)) (m .span .tail) (m .span .head + 1), written-log mem c stores after)
+  left-by after = rw (moved, made, written-log mem c stores after)
 
   -- done: the head moves on
   pub delete-done : (c ≡ 0 → ⊥) → r .answer ≡ 0 → r .left ≡ c - length stores → view (r .state) ≡ deleteNext m
       → shown r (mem .home) (mem .working) log ≡ stepped deleteOldest c m mem
   delete-done some answer left state =
-      let size : length (putsOf (slotsOf (mem .log)) (m .span .tail) (setHead (m .span .head + 1) ∷ [])) ≡ length stores = rw (puts-head, length-map) in
-      done-way deleteOldest c m mem zero n number none (setHead (m .span .head + 1) ∷ []) (deleteNext m) (mem .working) refl r (mem .home) log
-      (let e = one in omega arith) answer (left ∙ ap (λ k. c - k) (sym size)) state (left-by (mem .working))
+      done-way way c r (mem .home) log (rw (made, length-map, one) (omega arith)) answer (left ∙ (rw (made, length-map))) state (left-by (mem .working))
 
   -- cut: no store is made
-  pub delete-cut : (after : List ℕ) → c ≡ 0 → IsCut r → after ≡ replicate (length (mem .working)) 0
-      → shown r (mem .home) after log ≡ stepped deleteOldest c m mem
+  pub delete-cut : (after : List ℕ) → c ≡ 0 → IsCut r → after ≡ cleared mem → shown r (mem .home) after log ≡ stepped deleteOldest c m mem
   delete-cut after nothing answer clear =
-      cut-way deleteOldest c m mem zero n number none (setHead (m .span .head + 1) ∷ []) (deleteNext m) (mem .working) refl r (mem .home) log after
-      (let e = one in omega arith) answer clear (left-by (replicate (length (mem .working)) 0))
+      cut-way way c r (mem .home) log after (rw (made, length-map, one) (omega arith)) answer clear (left-by (cleared mem))

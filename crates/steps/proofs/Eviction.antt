@@ -1,6 +1,6 @@
 -- A line evicted: the entries that its ULog words add, how many must be logged before, and the state after it.
 use Prim.Native.Nat.{ℕ, _+_, _-_, _*_, _/_, _%_, _≤_, _<_}
-use mathlib.Core.Path.{_≡_, refl, sym, ap, ap₂, subst, _∙_}
+use mathlib.Core.Path.{_≡_, refl, sym, ap, ap₂, _∙_}
 use mathlib.Core.Bool.{true, cond}
 use mathlib.Core.List.{List, [], _++_, map, map-map, append-nil}
 use native.Mathlib.Omega.{arith}
@@ -25,18 +25,16 @@ use Rattle.model.specs.Refusals.{numberOf, common, noRoom}
 use Rattle.model.specs.Steps.{evicted, lacking, redoRecord, redoRecords, redosLogged, evictRecords, evictRows, evictNext}
 use Rattle.model.specs.Step.{evict, stepped}
 use Rattle.model.proofs.LinesInUse.{line-in-use, first-changed}
-use Rattle.model.proofs.Outcomes.{passed-own}
-use Rattle.model.proofs.Rows.{Room, room}
+use Rattle.model.proofs.Rows.{None, none-apply, own-positive, room}
 use Rattle.line_walks.specs.Walks.{ulogWords, refilled, wordsIn, valuesIn}
 use Rattle.line_walks.proofs.Refilled.{ulogEntry, entries-refilled}
 use Rattle.line_walks.proofs.WordStates.{withStates, state-put}
 use Rattle.logging.proofs.LineWords.{keep-below}
 use Rattle.logging.proofs.Appending.{Appended}
 use Rattle.state.specs.declared.Fields.{Fields}
-use Rattle.state.specs.declared.Made.{Made}
 use Rattle.state.specs.View.{view, shown}
-use Rattle.steps.proofs.Outcome.{common-narrow, IsCut}
-use Rattle.steps.proofs.Appending.{append-done, append-cut}
+use Rattle.steps.proofs.Outcome.{common-narrow}
+use Rattle.steps.proofs.Appending.{appended-of, Appends, append-done}
 use Rattle.steps.proofs.LineRows.{LineFit, line-fit, lineNumber, line-number}
 
 -- no word is ULog where all are Clean
@@ -147,8 +145,8 @@ few-wait b h = rw length-listed at h
 
 module _ (i : ℕ) (s : Fields) (mem : Memory) where
   -- there are as many records as entries lack places
-  size : (count : ℕ) → count ≡ lacking (view s) mem i → count ≤ s .redos .len → length (evictRecords (view s) mem i) ≡ count
-  size count e h = rw (← e) (length-oldest redoRecord count (s .redos .len) (redoAt (s .redos)) h)
+  pub evict-size : (count : ℕ) → count ≡ lacking (view s) mem i → count ≤ s .redos .len → length (evictRecords (view s) mem i) ≡ count
+  evict-size count e h = rw (← e) (length-oldest redoRecord count (s .redos .len) (redoAt (s .redos)) h)
 
   -- the number of the rows, by the code: the line's, then those of the records
   pub evict-number : (count room n : ℕ) → numberOf (common (view s) mem) ≡ 0 → count ≡ lackingIn (s .redos .len) (s .lines .states) i
@@ -157,40 +155,33 @@ module _ (i : ℕ) (s : Fields) (mem : Memory) where
   evict-number count room n none counted within last e =
       let narrow = common-narrow (view s) mem none in
       line-number s i room n (noRoom (view s) mem (length (evictRecords (view s) mem i))) narrow
-      (λ below. rw (size count (lacking-by s i below mem count narrow counted) within) last)
+      (λ below. rw (evict-size count (lacking-by s i below mem count narrow counted) within) last)
       e
 
-  module _ (c n : ℕ) (zero : numberOf (common (view s) mem) ≡ 0) (number : n ≡ numberOf (evictRows (view s) mem i)) (none : n ≡ 0) where
+  module _ (zero : numberOf (common (view s) mem) ≡ 0) (own : numberOf (evictRows (view s) mem i) ≡ 0) where
+    none : None (evictRows (view s) mem i)
+    none = none-apply (evictRows (view s) mem i) (own-positive (evict i) (view s) mem) own
+
+    -- what is known where it is not refused
     pub evict-fit : LineFit (view s) mem i
-    evict-fit = line-fit (view s) mem i (noRoom (view s) mem (length (evictRecords (view s) mem i))) zero (passed-own (evict i) c (view s) mem zero n number none)
+    evict-fit = line-fit (view s) mem i (noRoom (view s) mem (length (evictRecords (view s) mem i))) zero none
 
-    pub evict-room : Room (view s) (length (evictRecords (view s) mem i))
-    evict-room = room (view s) mem _ (passed-own (evict i) c (view s) mem zero n number none .1 .1)
+    -- it appends the records of the entries for which places lack
+    pub evict-appends : Appends (evict i) (view s) mem (evictRecords (view s) mem i) (evictNext (view s) mem i) (mem .working)
+    evict-appends =
+        record { way = record { first = zero; own = own; work = refl }; fits = evict-fit .fits; room = room (view s) mem _ (none .1 .1) }
 
-    module _ (count : ℕ) (lacks : count ≡ lacking (view s) mem i) (within : count ≤ s .redos .len) (log : List ℕ) (rest : ℕ)
-        (made : Appended c (mem .log) (s .tail) (redoRecords count (view s)) log rest) where
-      appended : Appended c (mem .log) (s .tail) (evictRecords (view s) mem i) log rest
-      appended = subst (λ (k : ℕ). Appended c (mem .log) (s .tail) (redoRecords k (view s)) log rest) lacks made
-
-      -- done: the supply was enough
-      pub evict-done : 3 * count ≤ c → WholeLines (s .lines) → (grown : RedoBuffer) (ss : List ℕ)
-          → redosWaiting grown ≡ drop count (redosWaiting (s .redos)) ++ evicted (view s) mem i → ss ≡ set (s .lines .states) i 0
-          → shown (record { answer = 0; left = rest; state = setDown s count grown ss }) (mem .home) (mem .working) log
-          ≡ stepped (evict i) c (view s) mem
-      evict-done h whole grown ss more clean =
-          append-done (evict i) c (view s) mem zero n number none (evictRecords (view s) mem i) (evictNext (view s) mem i) (mem .working) refl
-          (evict-fit .fits) evict-room (record { answer = 0; left = rest; state = setDown s count grown ss }) log
-          (omega (arith, size count lacks within)) appended refl
-          (set-down s i (evict-fit .below) mem count lacks within grown ss (evict-fit .narrow) whole more clean ∙ ap next lacks)
-        where
-          next : ℕ → Machine
-          next k =
-              withLines (changed (statesAs 0) i (view s .lines))
-              (withRedo (drop k (redosWaiting (s .redos)) ++ evicted (view s) mem i) (redosLogged k (view s)))
-
-      -- cut: it was not
-      pub evict-cut : (r : Made) (after : List ℕ) → c < 3 * count → IsCut r → after ≡ replicate (length (mem .working)) 0
-          → shown r (mem .home) after log ≡ stepped (evict i) c (view s) mem
-      evict-cut r after h =
-          append-cut (evict i) c (view s) mem zero n number none (evictRecords (view s) mem i) (evictNext (view s) mem i) (mem .working) refl
-          (evict-fit .fits) evict-room r after log rest (omega (arith, size count lacks within)) appended
+    -- done, whether or not the line had words to add
+    pub evict-done : (c count : ℕ) → count ≡ lacking (view s) mem i → count ≤ s .redos .len → (log : List ℕ) (rest : ℕ)
+        → Appended c (mem .log) (s .tail) (redoRecords count (view s)) log rest → 3 * count ≤ c → WholeLines (s .lines) → (grown : RedoBuffer) (ss : List ℕ)
+        → redosWaiting grown ≡ drop count (redosWaiting (s .redos)) ++ evicted (view s) mem i → ss ≡ set (s .lines .states) i 0
+        → shown (record { answer = 0; left = rest; state = setDown s count grown ss }) (mem .home) (mem .working) log ≡ stepped (evict i) c (view s) mem
+    evict-done c count lacks within log rest made h whole grown ss more clean =
+        append-done evict-appends c count (record { answer = 0; left = rest; state = setDown s count grown ss }) log (evict-size count lacks within) h
+        (appended-of (λ k. redoRecords k (view s)) count (lacking (view s) mem i) lacks made) refl
+        (set-down s i (evict-fit .below) mem count lacks within grown ss (evict-fit .narrow) whole more clean ∙ ap next lacks)
+      where
+        next : ℕ → Machine
+        next k =
+            withLines (changed (statesAs 0) i (view s .lines))
+            (withRedo (drop k (redosWaiting (s .redos)) ++ evicted (view s) mem i) (redosLogged k (view s)))

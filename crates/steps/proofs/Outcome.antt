@@ -1,20 +1,22 @@
 -- What the code of a step hands back: refused, done or cut, by the model's three ways out.
 use Prim.Native.Nat.{ℕ, _-_, _%_, _≤_, _<_}
-use mathlib.Core.Path.{_≡_, sym, _∙_, ap}
+use mathlib.Core.Path.{_≡_, refl, sym, _∙_, ap}
 use mathlib.Core.Bool.{true, _&&_}
 use mathlib.Core.List.{List}
 use borrow.Author.Tests.{leb-true, eqb-true}
 use lib.Dec.{leb, eqb}
-use lib.ListN.{length, take, replicate}
+use lib.ListN.{length, take}
 use lib.Seq.{take-all}
+use Rattle.log.specs.Region.{slotsOf}
 use Rattle.model.specs.Machine.{Machine, Memory, lostMachine}
 use Rattle.model.specs.Consistent.{isWidth}
-use Rattle.model.specs.Plan.{Op, Put, planned, Outcome, written}
+use Rattle.model.specs.Plan.{Op, Put, putsOf, planned, Outcome, written}
 use Rattle.model.specs.Refusals.{numberOf, common}
 use Rattle.model.specs.Step.{Step, logUndo, firstRows, ownRows, workOf, stepped}
 use Rattle.model.proofs.Lists.{both-left, both-right}
 use Rattle.model.proofs.Rows.{none-apply, first-positive}
-use Rattle.model.proofs.Outcomes.{puts, way-done, way-cut}
+use Rattle.model.proofs.Performing.{cleared}
+use Rattle.model.proofs.Outcomes.{way-done, way-cut}
 use Rattle.model.proofs.Fit.{Fit, fit}
 use Rattle.state.specs.declared.Made.{Made}
 use Rattle.state.specs.View.{view, shown}
@@ -50,25 +52,30 @@ IsCut r = (r .answer ≡ 255) × ((r .left ≡ 0) × (view (r .state) ≡ lostMa
 outcome-eq : (o p : Outcome) → o .answer ≡ p .answer → o .left ≡ p .left → o .machine ≡ p .machine → o .memory ≡ p .memory → o ≡ p
 outcome-eq o p a l m e = λ i. record { answer = a i; left = l i; machine = m i; memory = e i }
 
--- A step that no row refuses, its stores being those of ops: what is handed back is what the first c of them leave.
-module _ (s : Step) (c : ℕ) (m : Machine) (mem : Memory) (zero : numberOf (firstRows s m mem) ≡ 0) (n : ℕ)
-    (number : n ≡ numberOf (ownRows s m mem)) (none : n ≡ 0) (ops : List Op) (next : Machine) (working : List ℕ)
-    (work : workOf s m mem ≡ planned 0 ops next working) (r : Made) (home log : List ℕ) where
-  abbrev pub made : List Put
-  made = puts s c m mem zero n number none ops next working work
+-- A step that no row refuses, and what it does: the one law of its other two ways out.
+pub record Way (s : Step) (m : Machine) (mem : Memory) (ops : List Op) (next : Machine) (working : List ℕ) : Type 0 where
+  pub first : numberOf (firstRows s m mem) ≡ 0
+  pub own : numberOf (ownRows s m mem) ≡ 0
+  pub work : workOf s m mem ≡ planned 0 ops next working
 
+module _ {s : Step} {m : Machine} {mem : Memory} {ops : List Op} {next : Machine} {working : List ℕ} (way : Way s m mem ops next working)
+    (c : ℕ) (r : Made) (home log : List ℕ) where
+  -- its stores
+  abbrev pub made : List Put
+  made = putsOf (slotsOf (mem .log)) (m .span .tail) ops
+
+  -- done: the supply was enough
   pub done-way : length made ≤ c → r .answer ≡ 0 → r .left ≡ c - length made → view (r .state) ≡ next
       → record { home = home; working = working; log = log } ≡ written mem (take c made) working → shown r home working log ≡ stepped s c m mem
   done-way h answer left state memory =
       outcome-eq (shown r home working log) (record { answer = 0; left = c - length made; machine = next; memory = written mem made working })
       answer left state (memory ∙ ap (λ ps. written mem ps working) (take-all c made h))
-      ∙ sym (way-done s c m mem zero n number none ops next working work h)
+      ∙ sym (way-done s c m mem (way .first) 0 (sym (way .own)) refl ops next working (way .work) h)
 
-  pub cut-way : (after : List ℕ) → c < length made → IsCut r → after ≡ replicate (length (mem .working)) 0
-      → record { home = home; working = replicate (length (mem .working)) 0; log = log } ≡ written mem (take c made) (replicate (length (mem .working)) 0)
-      → shown r home after log ≡ stepped s c m mem
+  -- cut: it was not, and the working words are cleared
+  pub cut-way : (after : List ℕ) → c < length made → IsCut r → after ≡ cleared mem
+      → record { home = home; working = cleared mem; log = log } ≡ written mem (take c made) (cleared mem) → shown r home after log ≡ stepped s c m mem
   cut-way after h answer clear memory =
-      outcome-eq (shown r home after log)
-      (record { answer = 255; left = 0; machine = lostMachine; memory = written mem (take c made) (replicate (length (mem .working)) 0) })
+      outcome-eq (shown r home after log) (record { answer = 255; left = 0; machine = lostMachine; memory = written mem (take c made) (cleared mem) })
       (answer .0) (answer .1 .0) (answer .1 .1) (ap (λ (w : List ℕ). record { home = home; working = w; log = log }) clear ∙ memory)
-      ∙ sym (way-cut s c m mem zero n number none ops next working work h)
+      ∙ sym (way-cut s c m mem (way .first) 0 (sym (way .own)) refl ops next working (way .work) h)

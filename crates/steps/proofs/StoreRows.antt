@@ -1,27 +1,23 @@
 -- The rows that refuse a store, and what is known of one that none of them refuses.
-use Prim.Native.Nat.{ℕ, _+_, _*_, _≤_, _<_}
+use Prim.Native.Nat.{ℕ, _≤_, _<_}
 use mathlib.Core.Path.{_≡_, refl, sym, _∙_}
 use mathlib.Core.Bool.{Bool, false, not}
 use mathlib.Core.List.{List, [], _∷_, _++_}
 use native.Mathlib.Omega.{arith}
 use borrow.Author.Tests.{ltb-false, leb-false}
-use lib.ListN.{length, getD, set, replicate}
-use Rattle.log.specs.Region.{numbers}
+use lib.ListN.{length, getD, set}
 use Rattle.parts.proofs.Oldest.{length-oldest}
 use Rattle.parts.proofs.Waiting.{undoAt}
 use Rattle.model.specs.Machine.{Machine, Memory}
 use Rattle.model.specs.Refusals.{Row, row, idle, held, numberOf, common, unknownThread, unknownWord, notOpen, noRoom}
-use Rattle.model.specs.Step.{store, stepped}
+use Rattle.model.specs.Step.{store}
 use Rattle.model.specs.Steps.{undoRecords, undoRedoRecord, isSame, storeLogs, storeRecords, storeRows, storeNext, heldByAnother}
-use Rattle.model.proofs.Rows.{None, none-apply, number-first, number-then, Room, room}
-use Rattle.model.proofs.Outcomes.{passed-own}
+use Rattle.model.proofs.Rows.{None, none-apply, own-positive, number-first, number-then, room}
 use Rattle.model.proofs.Fit.{Fit}
-use Rattle.logging.proofs.Appending.{Appended}
 use Rattle.state.specs.declared.Fields.{Fields}
-use Rattle.state.specs.declared.Made.{Made}
-use Rattle.state.specs.View.{view, shown}
-use Rattle.steps.proofs.Outcome.{Width, width, common-fit, IsCut}
-use Rattle.steps.proofs.Appending.{append-done, append-cut}
+use Rattle.state.specs.View.{view}
+use Rattle.steps.proofs.Outcome.{Width, width, common-fit}
+use Rattle.steps.proofs.Appending.{Appends}
 use Rattle.steps.proofs.Filing.{logs-most, undos-length}
 
 -- whether thread and word are known, the rows that are looked at first
@@ -72,26 +68,20 @@ module _ (s : Fields) (mem : Memory) (t w v : ℕ) where
           let others : List Row = notOpen (view s) t ∷ row (heldByAnother (view s) t w) held ∷ noRoom (view s) mem (length (storeRecords (view s) mem w v)) in
           e ∙ (rw (began, other, ← size)) ∙ sym (number-then (placeRows (view s) t w) others passed)
 
-  -- what a store hands back, once it is not refused
-  module _ (c n : ℕ) (zero : numberOf (common (view s) mem) ≡ 0) (number : n ≡ numberOf (storeRows (view s) mem t w v)) (none : n ≡ 0)
-      (k : ℕ) (count : k ≡ storeLogs (view s) w (isSame mem w v)) where
-    pub store-room : Room (view s) (length (storeRecords (view s) mem w v))
-    store-room = room (view s) mem _ (passed-own (store t w v) c (view s) mem zero n number none .1 .1 .1 .1)
+  -- where no row applies, it appends the records of the entries that come first
+  abbrev pub StoreAppends : Type 0
+  StoreAppends =
+      Appends (store t w v) (view s) mem (storeRecords (view s) mem w v) (storeNext (view s) mem t w v (isSame mem w v)) (set (mem .working) w v)
 
-    size : length (storeRecords (view s) mem w v) ≡ k
-    size = store-records s w (isSame mem w v) ∙ sym count
+  pub store-appends : numberOf (common (view s) mem) ≡ 0 → numberOf (storeRows (view s) mem t w v) ≡ 0 → StoreAppends
+  store-appends zero own =
+      let none = none-apply (storeRows (view s) mem t w v) (own-positive (store t w v) (view s) mem) own in
+      record {
+        way = record { first = zero; own = own; work = refl };
+        fits = common-fit (view s) mem zero;
+        room = room (view s) mem _ (none .1 .1 .1 .1);
+      }
 
-    module _ (r : Made) (log : List ℕ) (rest : ℕ) (made : Appended c (mem .log) (s .tail) (undoRecords k (view s)) log rest) where
-      -- the supply was enough
-      pub store-done : 3 * k ≤ c → r .answer ≡ 0 → r .left ≡ rest → view (r .state) ≡ storeNext (view s) mem t w v (isSame mem w v)
-          → shown r (mem .home) (set (mem .working) w v) log ≡ stepped (store t w v) c (view s) mem
-      store-done h answer kept =
-          append-done (store t w v) c (view s) mem zero n number none (storeRecords (view s) mem w v) (storeNext (view s) mem t w v (isSame mem w v))
-          (set (mem .working) w v) refl (common-fit (view s) mem zero) store-room r log (omega (arith, size)) (rw (count, ← kept) at made) answer
-
-      -- it was not
-      pub store-cut : (working : List ℕ) → c < 3 * k → IsCut r → working ≡ replicate (length (mem .working)) 0
-          → shown r (mem .home) working log ≡ stepped (store t w v) c (view s) mem
-      store-cut working h =
-          append-cut (store t w v) c (view s) mem zero n number none (storeRecords (view s) mem w v) (storeNext (view s) mem t w v (isSame mem w v))
-          (set (mem .working) w v) refl (common-fit (view s) mem zero) store-room r working log rest (omega (arith, size)) (rw count at made)
+  -- k of them
+  pub store-size : (k : ℕ) → k ≡ storeLogs (view s) w (isSame mem w v) → length (storeRecords (view s) mem w v) ≡ k
+  store-size k count = store-records s w (isSame mem w v) ∙ sym count

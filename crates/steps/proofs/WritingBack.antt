@@ -4,7 +4,7 @@ use mathlib.Core.Path.{_≡_, refl, sym, ap, _∙_}
 use mathlib.Core.Bool.{Bool, false}
 use mathlib.Core.List.{List, [], map}
 use native.Mathlib.Omega.{arith}
-use lib.ListN.{length, take, replicate, getD, set, length-map}
+use lib.ListN.{length, take, getD, set, length-map}
 use lib.Seq.{set-getD}
 use Rattle.log.specs.Stores.{Store, storedUnder}
 use Rattle.log.specs.Region.{slotsOf}
@@ -14,19 +14,19 @@ use Rattle.parts.specs.Lines.{lineAt, firstLines, putLine}
 use Rattle.parts.proofs.Listed.{length-listed}
 use Rattle.parts.proofs.FirstLines.{WholeLines}
 use Rattle.model.specs.Machine.{Memory, wordsOf, withLines, changed, dirtyAs}
-use Rattle.model.specs.Plan.{writeHome, putsOf, written}
+use Rattle.model.specs.Plan.{inHome, writeHome, putsOf, written}
 use Rattle.model.specs.Refusals.{numberOf, common}
 use Rattle.model.specs.Steps.{lineRows, lineWrites, writeBackNext}
 use Rattle.model.specs.Step.{writeBack, stepped}
 use Rattle.model.proofs.LinesInUse.{first-changed}
-use Rattle.model.proofs.Performing.{puts-home, written-home}
-use Rattle.model.proofs.Outcomes.{passed-own}
+use Rattle.model.proofs.Performing.{puts-home, written-home, cleared}
+use Rattle.model.proofs.Rows.{none-apply, own-positive}
 use Rattle.line_walks.specs.Walks.{lineStores}
 use Rattle.line_walks.proofs.LineStores.{stores-there}
 use Rattle.state.specs.declared.Fields.{Fields}
 use Rattle.state.specs.declared.Made.{Made}
 use Rattle.state.specs.View.{view, shown}
-use Rattle.steps.proofs.Outcome.{IsCut, done-way, cut-way}
+use Rattle.steps.proofs.Outcome.{IsCut, Way, done-way, cut-way}
 use Rattle.steps.proofs.LineRows.{LineFit, line-fit, line-there}
 
 -- the lines with other dirty flags, and the state with these lines
@@ -56,43 +56,42 @@ flag-lines n ls i d ds whole h e = rw e (ap (firstLines n) (sym flag-put) ∙ fi
     flag-put = simp set-getD
 
 -- What the step hands back once it is not refused.
-module _ (i c : ℕ) (s : Fields) (mem : Memory) (zero : numberOf (common (view s) mem) ≡ 0) (n : ℕ) (number : n ≡ numberOf (lineRows (view s) i))
-    (none : n ≡ 0) (home : List ℕ) (stores : home ≡ storedUnder c (mem .home) (lineStores (mem .working) i)) where
+module _ (i c : ℕ) (s : Fields) (mem : Memory) (zero : numberOf (common (view s) mem) ≡ 0) (none : numberOf (lineRows (view s) i) ≡ 0) where
+  pub write-fit : LineFit (view s) mem i
+  write-fit = line-fit (view s) mem i [] zero (none-apply (lineRows (view s) i) (own-positive (writeBack i) (view s) mem) none)
+
   abbrev writes : List Store
   writes = lineWrites (mem .working) i
 
-  pub write-fit : LineFit (view s) mem i
-  write-fit = line-fit (view s) mem i [] zero (passed-own (writeBack i) c (view s) mem zero n number none)
+  way : Way (writeBack i) (view s) mem (map writeHome writes) (writeBackNext (view s) i) (mem .working)
+  way = record { first = zero; own = none; work = refl }
 
-  eight : length (putsOf (slotsOf (mem .log)) (s .tail) (map writeHome writes)) ≡ 8
-  eight =
-      rw (puts-home, length-map) (length-map (wordsOf i) (λ w. record { at = w; value = getD (mem .working) w 0 }) ∙ length-listed 8 (λ j. 8 * i + j))
+  -- its eight stores
+  made : putsOf (slotsOf (mem .log)) (s .tail) (map writeHome writes) ≡ map inHome writes
+  made = puts-home (slotsOf (mem .log)) (s .tail) writes
+
+  eight : length writes ≡ 8
+  eight = length-map (wordsOf i) (λ w. record { at = w; value = getD (mem .working) w 0 }) ∙ length-listed 8 (λ j. 8 * i + j)
 
   there : lineStores (mem .working) i ≡ writes
   there = stores-there (mem .working) i (line-there write-fit)
 
-  -- what the first c stores leave
-  left-by : (after : List ℕ) → record { home = home; working = after; log = mem .log }
-      ≡ written mem (take c (putsOf (slotsOf (mem .log)) (s .tail) (map writeHome writes))) after
-  left-by after = rw (stores, there, puts-home (slotsOf (mem .log)) (s .tail) writes, written-home mem c writes after)
+  module _ (r : Made) (home : List ℕ) (stores : home ≡ storedUnder c (mem .home) (lineStores (mem .working) i)) where
+    -- what the first c of them leave
+    left-by : (after : List ℕ) → record { home = home; working = after; log = mem .log }
+        ≡ written mem (take c (putsOf (slotsOf (mem .log)) (s .tail) (map writeHome writes))) after
+    left-by after = rw (stores, there, made, written-home mem c writes after)
 
-  -- done: the supply was enough, and the line's flag was cleared
-  pub write-done : (left : ℕ) (flags : List Bool) → 8 ≤ c → left ≡ c - length (lineStores (mem .working) i)
-      → WholeLines (s .lines) → flags ≡ set (s .lines .dirty) i false
-      → shown (record { answer = 0; left = left; state = flagsReplaced s flags }) home (mem .working) (mem .log) ≡ stepped (writeBack i) c (view s) mem
-  write-done left flags h l whole cleared =
-      let size = eight in
-      let narrow = write-fit .narrow in
-      let count : length (putsOf (slotsOf (mem .log)) (s .tail) (map writeHome writes)) ≡ length writes = rw (puts-home, length-map) in
-      done-way (writeBack i) c (view s) mem zero n number none (map writeHome writes) (writeBackNext (view s) i) (mem .working) refl
-      (record { answer = 0; left = left; state = flagsReplaced s flags }) home (mem .log) (omega arith) refl
-      (l ∙ ap (λ (ss : List Store). c - length ss) there ∙ omega arith)
-      (ap (λ (ls : List Line). withLines ls (view s)) (flag-lines (s .words / 8) (s .lines) i false flags whole (omega arith) cleared))
-      (left-by (mem .working))
+    -- done: the supply was enough, and the line's flag was cleared
+    pub write-done : (flags : List Bool) → 8 ≤ c → r .answer ≡ 0 → r .left ≡ c - length (lineStores (mem .working) i) → r .state ≡ flagsReplaced s flags
+        → WholeLines (s .lines) → flags ≡ set (s .lines .dirty) i false → shown r home (mem .working) (mem .log) ≡ stepped (writeBack i) c (view s) mem
+    write-done flags h answer left state whole cleared =
+        let narrow = write-fit .narrow in
+        done-way way c r home (mem .log) (rw (made, length-map, eight) h) answer (left ∙ ap (λ (ss : List Store). c - length ss) there ∙ (rw (made, length-map writes inHome)))
+        (ap view state
+        ∙ ap (λ (ls : List Line). withLines ls (view s)) (flag-lines (s .words / 8) (s .lines) i false flags whole (omega arith) cleared))
+        (left-by (mem .working))
 
-  -- cut: it was not
-  pub write-cut : (r : Made) (after : List ℕ) → c < 8 → IsCut r → after ≡ replicate (length (mem .working)) 0
-      → shown r home after (mem .log) ≡ stepped (writeBack i) c (view s) mem
-  write-cut r after h answer clear =
-      cut-way (writeBack i) c (view s) mem zero n number none (map writeHome writes) (writeBackNext (view s) i) (mem .working) refl r home (mem .log)
-      after (let size = eight in omega arith) answer clear (left-by (replicate (length (mem .working)) 0))
+    -- cut: it was not
+    pub write-cut : (after : List ℕ) → c < 8 → IsCut r → after ≡ cleared mem → shown r home after (mem .log) ≡ stepped (writeBack i) c (view s) mem
+    write-cut after h answer clear = cut-way way c r home (mem .log) after (rw (made, length-map, eight) h) answer clear (left-by (cleared mem))

@@ -1,6 +1,6 @@
 -- `carry_out` meets its contract: cut, or done.
 use Prim.Native.Nat.{_/_, min}
-use mathlib.Core.Path.{_≡_, _∙_, ap}
+use mathlib.Core.Path.{_≡_, refl, sym, _∙_, ap}
 use mathlib.Core.List.{List, map}
 use native.Mathlib.Omega.{arith}
 use borrow.Author.Needs.{needs}
@@ -18,7 +18,8 @@ use Rattle.model.specs.Steps.{released}
 use Rattle.line_walks.proofs.ReleasedLines.{released-all}
 use Rattle.line_walks.proofs.WordStates.{withStates, whole-marked, logged-lines}
 use Rattle.state.specs.View.{memory}
-use Rattle.steps.proofs.Commits.{freed, commit-next, commit-done, commit-cut}
+use Rattle.steps.proofs.Appending.{append-done, append-cut}
+use Rattle.steps.proofs.Commits.{freed, commit-next, commit-appends, commit-appended}
 use Rattle.steps.proofs.committing.carry_out.Statement.{statement}
 use Rattle.steps.proofs.committing.carry_out.Tie as tie
 
@@ -52,9 +53,10 @@ returns c home allowed =
     let a = s .args in
     let cleared = c .before .before .cut in
     let made = logged .append-commit in
-    commit-cut (a .t1) (a .thread) (a .supply) home (a .working .now) (a .log .now) (a .count) allowed
-    (made .last .0) (made .result) (made .ensures (a .t1 .lines .dirty)) (cleared .result) (cleared .last .0)
-    (c .before .before .before .before .if1 .taken) (cleared .ensures .0) (cleared .ensures .1)
+    append-cut (commit-appends (a .t1) (a .thread) home (a .working .now) (a .log .now) (a .count) allowed) (a .supply) (a .count) (cleared .result)
+    (cleared .last .0) (made .last .0) (made .result) (sym (allowed .records)) (c .before .before .before .before .if1 .taken)
+    (commit-appended (a .t1) (a .thread) home (a .working .now) (a .log .now) (a .count) allowed (made .ensures (a .t1 .lines .dirty)))
+    (cleared .ensures .0) (cleared .ensures .1)
 
 -- the arrays of the state have their places
 places : (c : tie.Start) → length (c .args .t1 .undos .words) ≡ 16
@@ -124,8 +126,9 @@ returns-2 c home allowed =
     let few : min n 64 ≡ n = omega arith in
     let wide = whole-marked (s .undos .words) (s .lines) (after .mark-logged .last .0) (s .undos .len) (whole begun) marks in
     let free : Lines = record { holders = holders .last .0; dirty = s .lines .dirty; states = states .last .0 } in
-    commit-done s (a .thread) (a .supply) home (a .working .now) (a .log .now) (a .count) allowed
-    (made .last .0) (made .result) (made .ensures (s .lines .dirty)) (freed s free (a .thread) (a .count)) (enough .if1 .left)
+    append-done (commit-appends s (a .thread) home (a .working .now) (a .log .now) (a .count) allowed) (a .supply) (a .count)
+    (record { answer = 0; left = made .result; state = freed s free (a .thread) (a .count) }) (made .last .0) (sym (allowed .records)) (enough .if1 .left)
+    (commit-appended s (a .thread) home (a .working .now) (a .log .now) (a .count) allowed (made .ensures (s .lines .dirty))) refl
     (commit-next s free (memory home (a .working .now) (a .log .now)) (a .thread) (a .count) (allowed .records)
     (released-all (a .thread) n marked (holders .last .0) (states .last .0) wide (omega arith) (rw few at (holders .ensures))
     (rw few at (states .ensures))

@@ -12,7 +12,7 @@ use Rattle.model.specs.Step.{commit}
 use Rattle.model.proofs.Outcomes.{refused-own}
 use Rattle.state.specs.View.{view, memory}
 use Rattle.steps.specs.Committing.{Allowed}
-use Rattle.steps.proofs.Commits.{Sizes, sizes, commit-room, known-thread}
+use Rattle.steps.proofs.Commits.{Sizes, sizes, known-thread, commit-appends}
 use Rattle.steps.proofs.committing.committed.Statement.{statement}
 use Rattle.steps.proofs.committing.committed.Tie as tie
 
@@ -89,10 +89,9 @@ carry-out-requires c κs =
     let a = start .args in
     let y = size start in
     let count = passed .before .before .before .count-records .result in
-    let room = commit-room (a .state) (a .thread) (a .supply) (a .home .now) (a .working .now) (a .log .now) count (allowed passed) in (
-      known-thread (a .state) (a .thread) (a .supply) (a .home .now) (a .working .now) (a .log .now) count (allowed passed),
-      (y .words, (y .undos, omega (arith, room .numbered (y .tail), allowed passed .records))),
-    )
+    let thread = known-thread (a .state) (a .thread) (a .home .now) (a .working .now) (a .log .now) count (allowed passed) in
+    let room = commit-appends (a .state) (a .thread) (a .home .now) (a .working .now) (a .log .now) count (allowed passed) .room in
+    (thread, (y .words, (y .undos, omega (arith, room .numbered (y .tail), allowed passed .records))))
 
 same-length : tie.Need-same-length
 same-length c = search needs

@@ -1,5 +1,5 @@
 -- `deleted` meets its contract: it is refused, cut, or moves the head on.
-use mathlib.Core.Path.{_≡_, refl, ap, _∙_}
+use mathlib.Core.Path.{_≡_, refl, sym, ap, _∙_}
 use native.Mathlib.Omega.{arith}
 use borrow.Author.Needs.{needs}
 use Rattle.parts.specs.declared.Verdict.{Verdict}
@@ -39,6 +39,10 @@ number c =
     c .refusal .ensures
     ∙ ap (λ (v : Verdict). numberOf (verdictRows v)) (c .before .oldest-verdict .ensures (taken s) (lent s) refl refl refl refl refl)
 
+-- no row applies where the delete goes on
+none : (c : tie.Else1) → numberOf (deleteRows (view (taken (start (c .before)))) (lent (start (c .before)))) ≡ 0
+none c = sym (number (c .before)) ∙ c .if1 .left
+
 refused-requires : tie.Need-refused-requires
 refused-requires c κs = search needs
 
@@ -75,8 +79,8 @@ returns-2 c =
     let d = c .before .before .before .before .before .before .before .before .before .before in
     let s = start (d .before) in
     let out = c .before .before .cut in
-    delete-cut (s .args .supply) (view (taken s)) (lent s) (s .pre) (d .before .refusal .result) (number (d .before)) (d .if1 .left) _
-    (c .before .before .before .before .before .before .before .set-head .ensures .1) (out .result) _ (c .before .before .before .before .if2 .taken)
+    delete-cut (s .args .supply) (view (taken s)) (lent s) (s .pre) (none d) (out .result) _
+    (c .before .before .before .before .before .before .before .set-head .ensures .1) _ (c .before .before .before .before .if2 .taken)
     (out .ensures .0) (out .ensures .1)
 
 same-length-4 : tie.Need-same-length-4
@@ -87,8 +91,8 @@ returns-3 c =
     let d = c .before .before .before .before .before .before in
     let s = start (d .before) in
     let moved = c .before .before .before .set-head in
-    delete-done (s .args .supply) (view (taken s)) (lent s) (s .pre) (d .before .refusal .result) (number (d .before)) (d .if1 .left) _
-    (moved .ensures .1) (record { answer = 0; left = moved .result; state = headMoved (taken s) }) (c .if2 .left) refl (moved .ensures .0) refl
+    delete-done (s .args .supply) (view (taken s)) (lent s) (s .pre) (none d)
+    (record { answer = 0; left = moved .result; state = headMoved (taken s) }) _ (moved .ensures .1) (c .if2 .left) refl (moved .ensures .0) refl
 
 pub deleted-spec : {M : Type 1} → statement M
 deleted-spec =

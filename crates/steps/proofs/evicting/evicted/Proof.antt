@@ -8,16 +8,18 @@ use lib.Seq.{set-getD}
 use Rattle.parts.proofs.FirstLines.{WholeLines}
 use Rattle.model.specs.Machine.{Memory}
 use Rattle.model.specs.Refusals.{numberOf}
-use Rattle.model.specs.Steps.{lacking, evictRows}
+use Rattle.model.specs.Steps.{redoRecords, lacking, evictRows}
 use Rattle.model.specs.Step.{evict}
 use Rattle.model.proofs.Outcomes.{refused-own}
 use Rattle.model.proofs.Fit.{Fit}
 use Rattle.logging.proofs.Guards.{redos-appended}
 use Rattle.state.specs.View.{view, memory}
 use Rattle.steps.proofs.Outcome.{common-fit}
+use Rattle.steps.proofs.Appending.{appended-of, append-cut}
 use Rattle.steps.proofs.LineRows.{LineFit}
 use Rattle.steps.proofs.LoggingOldest.{WholeRedos}
-use Rattle.steps.proofs.Eviction.{few-wait, lacking-by, entries-added, entries-none, evict-number, evict-fit, evict-cut, evict-done}
+use Rattle.steps.proofs.Eviction.{few-wait, lacking-by, entries-added, entries-none, evict-number, evict-fit}
+use Rattle.steps.proofs.Eviction.{evict-size, evict-appends, evict-done}
 use borrow.Author.Needs.{needs}
 use Rattle.steps.proofs.evicting.evicted.Statement.{statement}
 use Rattle.steps.proofs.evicting.evicted.Tie as tie
@@ -65,10 +67,12 @@ module _ (c : tie.Else1) where
   abbrev began : tie.Start
   began = start taken
 
+  none : numberOf (evictRows (view (began .args .t1)) (lent began) (began .args .line)) ≡ 0
+  none = sym (number (c .before)) ∙ c .if1 .left
+
   passed : LineFit (view (began .args .t1)) (lent began) (began .args .line)
   passed =
-      evict-fit (began .args .line) (began .args .t1) (lent began) (began .args .supply) (c .before .line-refusal .result) (began .pre)
-      (number (c .before)) (c .if1 .left)
+      evict-fit (began .args .line) (began .args .t1) (lent began) (began .pre) none
 
   -- as many entries are logged as lack places
   lacks : taken .lacking .result ≡ lacking (view (began .args .t1)) (lent began) (began .args .line)
@@ -136,10 +140,10 @@ returns-2 c =
     let a = s .args in
     let count = taken e .lacking in
     let log = logged .append-redos in
-    evict-cut (a .line) (a .t1) (lent s) (a .supply) (e .before .line-refusal .result) (s .pre) (number (e .before)) (e .if1 .left)
-    (count .result) (lacks e) (count .ensures .0)
-    (log .last .0) (log .result) (redos-appended (count .result) (a .t1 .redos) (few s) (log .ensures))
-    (ended .cut .result) (ended .cut .last .0) (ended .before .before .if2 .taken) (ended .cut .ensures .0) (ended .cut .ensures .1)
+    append-cut (evict-appends (a .line) (a .t1) (lent s) (s .pre) (none e)) (a .supply) (count .result) (ended .cut .result) (ended .cut .last .0)
+    (log .last .0) (log .result) (evict-size (a .line) (a .t1) (lent s) (count .result) (lacks e) (count .ensures .0)) (ended .before .before .if2 .taken)
+    (appended-of (λ k. redoRecords k (view (a .t1))) (count .result) _ (lacks e) (redos-appended (count .result) (a .t1 .redos) (few s) (log .ensures)))
+    (ended .cut .ensures .0) (ended .cut .ensures .1)
 
 -- where the line's states are read, and before
 abbrev logged : tie.After-states-at-arg → tie.After-append-redos
@@ -205,10 +209,9 @@ returns-3 c =
     let f = passed e in
     let count = taken e .lacking in
     let states = read .states-at .ensures in
-    let done = evict-done (a .line) (a .t1) (lent s) (a .supply) (e .before .line-refusal .result) (s .pre) (number (e .before)) (e .if1 .left)
-    (count .result) (lacks e) (count .ensures .0)
-    (log .last .0) (log .result) (redos-appended (count .result) (a .t1 .redos) (few s) (log .ensures))
-    (read .before .before .before .if2 .left) (whole-lines s) in
+    let done =
+    evict-done (a .line) (a .t1) (lent s) (s .pre) (none e) (a .supply) (count .result) (lacks e) (count .ensures .0) (log .last .0) (log .result)
+    (redos-appended (count .result) (a .t1 .redos) (few s) (log .ensures)) (read .before .before .before .if2 .left) (whole-lines s) in
     ⊎-elim
     (λ w.
     let keys = whole-redos s in

@@ -1,6 +1,6 @@
 -- `redo_logged` meets its contract: refused, cut, or done with the oldest redo entry logged.
-use mathlib.Core.Path.{_≡_, refl}
-use mathlib.Core.List.{List, _++_, map}
+use mathlib.Core.Path.{_≡_, refl, sym, _∙_}
+use mathlib.Core.List.{List}
 use Prim.Native.Nat.{_-_}
 use native.Mathlib.Omega.{arith}
 use borrow.Author.Needs.{needs}
@@ -17,7 +17,7 @@ use Rattle.model.proofs.Outcomes.{refused-own}
 use Rattle.logging.proofs.Guards.{redos-appended}
 use Rattle.state.specs.declared.Fields.{Fields}
 use Rattle.state.specs.View.{view, memory}
-use Rattle.steps.proofs.Appending.{append-done, append-cut}
+use Rattle.steps.proofs.Appending.{Appends, append-done, append-cut}
 use Rattle.steps.proofs.LoggingOldest.{WholeRedos, oldest, count-oldest, oneLogged, redos-rest, in-log, Known, known}
 use Rattle.steps.proofs.log_oldest.redo_logged.Statement.{statement}
 use Rattle.steps.proofs.log_oldest.redo_logged.Tie as tie
@@ -55,6 +55,17 @@ passed-known c =
     known redoRecord 32 (b .len) (redoAt b) (view (s .args .t1)) (lent s) (c .before .refusal .result) (λ d. omega (arith, d .redoSize)) (s .pre)
     (number (c .before)) (c .if1 .left)
 
+-- it appends the entry's record
+appends : (c : tie.Else1) → let s = start (c .before) in
+    Appends logRedo (view (s .args .t1)) (lent s) (records (s .args .t1)) (redosLogged 1 (view (s .args .t1))) (lent s .working)
+appends c =
+    let k = passed-known c in
+    record {
+      way = record { first = start (c .before) .pre; own = sym (number (c .before)) ∙ c .if1 .left; work = refl };
+      fits = k .fits;
+      room = k .room;
+    }
+
 refusal-requires : tie.Need-refusal-requires
 refusal-requires c κs =
     let s = c .before .before .before in
@@ -88,13 +99,10 @@ returns-2 c =
     let appended = ended .before .before .before .before .before in
     let begun = passed appended in
     let s = start (begun .before) in
-    let m = view (s .args .t1) in
     let e = appended .append-redos in
     let k = passed-known begun in
-    append-cut logRedo (s .args .supply) m (lent s) (s .pre) (begun .before .refusal .result) (number (begun .before)) (begun .if1 .left)
-    (records (s .args .t1)) (redosLogged 1 m) (lent s .working) refl (k .fits) (k .room) (ended .cut .result) (ended .cut .last .0) (e .last .0) (e .result)
-    (omega (arith, k .one, ended .before .before .if2 .taken)) (redos-appended 1 (s .args .t1 .redos) (k .short) (e .ensures))
-    (ended .cut .ensures .0) (ended .cut .ensures .1)
+    append-cut (appends begun) (s .args .supply) 1 (ended .cut .result) (ended .cut .last .0) (e .last .0) (e .result) (k .one)
+    (ended .before .before .if2 .taken) (redos-appended 1 (s .args .t1 .redos) (k .short) (e .ensures)) (ended .cut .ensures .0) (ended .cut .ensures .1)
 
 close-threads-requires : tie.Need-close-threads-requires
 close-threads-requires c κs = search needs
@@ -136,9 +144,7 @@ returns-3 c =
     (threads .ensures) (words .ensures) (values .ensures) in
     let next = oneLogged s (s .lines) (s .undos) left in
     let same : view next ≡ redosLogged 1 (view s) = rw (rest, k .one) in
-    append-done logRedo (a .supply) (view s) (lent (start (begun .before))) (start (begun .before) .pre) (begun .before .refusal .result)
-    (number (begun .before)) (begun .if1 .left) (records s) (redosLogged 1 (view s)) (a .working .now) refl (k .fits) (k .room)
-    (record { answer = 0; left = e .result; state = next }) (e .last .0) (omega (arith, k .one, taken .if2 .left))
+    append-done (appends begun) (a .supply) 1 (record { answer = 0; left = e .result; state = next }) (e .last .0) (k .one) (taken .if2 .left)
     (redos-appended 1 (s .redos) (k .short) (e .ensures)) refl same
 
 pub redo-logged-spec : {M : Type 1} → statement M

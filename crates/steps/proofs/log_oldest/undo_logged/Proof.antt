@@ -1,6 +1,6 @@
 -- `undo_logged` meets its contract: refused, cut, or done with the oldest undo+redo entry logged.
-use mathlib.Core.Path.{_≡_, refl}
-use mathlib.Core.List.{List, _++_, map}
+use mathlib.Core.Path.{_≡_, refl, sym, _∙_}
+use mathlib.Core.List.{List}
 use Prim.Native.Nat.{_-_}
 use native.Mathlib.Omega.{arith}
 use borrow.Author.Needs.{needs}
@@ -18,7 +18,7 @@ use Rattle.model.proofs.Outcomes.{refused-own}
 use Rattle.logging.proofs.Guards.{undos-appended}
 use Rattle.state.specs.declared.Fields.{Fields}
 use Rattle.state.specs.View.{view, memory}
-use Rattle.steps.proofs.Appending.{append-done, append-cut}
+use Rattle.steps.proofs.Appending.{Appends, append-done, append-cut}
 use Rattle.steps.proofs.LoggingOldest.{WholeUndos, oldest, count-oldest, undosGone, undos-gone, undos-rest, in-log, Known, known}
 use Rattle.steps.proofs.log_oldest.undo_logged.Statement.{statement}
 use Rattle.steps.proofs.log_oldest.undo_logged.Tie as tie
@@ -59,6 +59,17 @@ passed-known c =
     known undoRedoRecord 16 (b .len) (undoAt b) (view (s .args .t1)) (lent s) (c .before .refusal .result) (λ d. omega (arith, d .undoSize)) (s .pre)
     (number (c .before)) (c .if1 .left)
 
+-- it appends the entry's record
+appends : (c : tie.Else1) → let s = start (c .before) in
+    Appends logUndo (view (s .args .t1)) (lent s) (records (s .args .t1)) (undosLogged 1 (view (s .args .t1))) (lent s .working)
+appends c =
+    let k = passed-known c in
+    record {
+      way = record { first = start (c .before) .pre; own = sym (number (c .before)) ∙ c .if1 .left; work = refl };
+      fits = k .fits;
+      room = k .room;
+    }
+
 refusal-requires : tie.Need-refusal-requires
 refusal-requires c κs =
     let s = c .before .before .before in
@@ -92,13 +103,10 @@ returns-2 c =
     let appended = ended .before .before .before .before .before in
     let begun = passed appended in
     let s = start (begun .before) in
-    let m = view (s .args .t1) in
     let e = appended .append-undos in
     let k = passed-known begun in
-    append-cut logUndo (s .args .supply) m (lent s) (s .pre) (begun .before .refusal .result) (number (begun .before)) (begun .if1 .left)
-    (records (s .args .t1)) (undosLogged 1 m) (lent s .working) refl (k .fits) (k .room) (ended .cut .result) (ended .cut .last .0) (e .last .0) (e .result)
-    (omega (arith, k .one, ended .before .before .if2 .taken)) (undos-appended 1 (s .args .t1 .undos) (k .short) (e .ensures))
-    (ended .cut .ensures .0) (ended .cut .ensures .1)
+    append-cut (appends begun) (s .args .supply) 1 (ended .cut .result) (ended .cut .last .0) (e .last .0) (e .result) (k .one)
+    (ended .before .before .if2 .taken) (undos-appended 1 (s .args .t1 .undos) (k .short) (e .ensures)) (ended .cut .ensures .0) (ended .cut .ensures .1)
 
 mark-logged-requires : tie.Need-mark-logged-requires
 mark-logged-requires c κs = search needs
@@ -159,9 +167,7 @@ returns-3 c =
     let next = undosGone s 1 (marked .last .0) left in
     let same : view next ≡ undosLogged 1 (view s) =
     undos-gone s 1 (marked .last .0) left (whole-lines b) places (k .some) (k .short) (k .narrow) (marked .ensures (whole-lines b .states) places) rest in
-    append-done logUndo (a .supply) (view s) (lent (start (begun .before))) (start (begun .before) .pre) (begun .before .refusal .result)
-    (number (begun .before)) (begun .if1 .left) (records s) (undosLogged 1 (view s)) (a .working .now) refl (k .fits) (k .room)
-    (record { answer = 0; left = e .result; state = next }) (e .last .0) (omega (arith, k .one, taken .if2 .left))
+    append-done (appends begun) (a .supply) 1 (record { answer = 0; left = e .result; state = next }) (e .last .0) (k .one) (taken .if2 .left)
     (undos-appended 1 (s .undos) (k .short) (e .ensures)) refl same
 
 pub undo-logged-spec : {M : Type 1} → statement M

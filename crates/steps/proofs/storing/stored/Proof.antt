@@ -7,11 +7,11 @@ use mathlib.Core.Logic.{⊎-elim}
 use borrow.Author.Needs.{needs}
 use native.Mathlib.Omega.{arith}
 use lib.Dec.{eqb}
-use lib.ListN.{getD}
+use lib.ListN.{length, getD}
 use Rattle.log.specs.declared.Record.{Record}
 use Rattle.model.specs.Machine.{Machine, Memory}
 use Rattle.model.specs.Refusals.{numberOf}
-use Rattle.model.specs.Steps.{storeLogs, storeRows, undoRecords}
+use Rattle.model.specs.Steps.{storeLogs, storeRecords, storeRows, undoRecords}
 use Rattle.model.specs.Step.{store}
 use Rattle.model.proofs.Outcomes.{refused-own}
 use Rattle.logging.proofs.Appending.{Appended, appended-none, appended-length}
@@ -19,7 +19,8 @@ use Rattle.logging.proofs.Guards.{undos-appended}
 use Rattle.state.specs.View.{view, memory}
 use Rattle.steps.specs.Steps.{TakenOut}
 use Rattle.steps.proofs.Filing.{logs-most, undos-length, redos-length}
-use Rattle.steps.proofs.StoreRows.{placeRows, place-refused, Known, known, late-number, store-done, store-cut}
+use Rattle.steps.proofs.Appending.{appended-of, append-done, append-cut}
+use Rattle.steps.proofs.StoreRows.{placeRows, place-refused, Known, known, late-number, StoreAppends, store-appends, store-size}
 use Rattle.steps.proofs.storing.stored.Statement.{statement}
 use Rattle.steps.proofs.storing.stored.Tie as tie
 
@@ -193,16 +194,27 @@ module _ (c : tie.Joined3) where
   known-entry : Known (entry .args .state) (lent entry) (entry .args .thread) (entry .args .word) (entry .args .value)
   known-entry = known-here (passed (late .before .before))
 
+  appends : StoreAppends (entry .args .state) (lent entry) (entry .args .thread) (entry .args .word) (entry .args .value)
+  appends =
+      store-appends (entry .args .state) (lent entry) (entry .args .thread) (entry .args .word) (entry .args .value) (entry .pre .1)
+      (sym (late-here (late .before)) ∙ late .if2 .left)
+
+  counted : length (storeRecords (view (entry .args .state)) (lent entry) (entry .args .word) (entry .args .value)) ≡ count .logs-first .result
+  counted =
+      store-size (entry .args .state) (lent entry) (entry .args .thread) (entry .args .word) (entry .args .value) (count .logs-first .result)
+      (count-here count)
+
   logged : Appended (entry .args .supply) (lent entry .log) (entry .args .state .tail)
-      (undoRecords (count .logs-first .result) (view (entry .args .state))) (c .if3 .log) (c .if3 .left)
+      (storeRecords (view (entry .args .state)) (lent entry) (entry .args .word) (entry .args .value)) (c .if3 .log) (c .if3 .left)
   logged =
       let undos = entry .args .state .undos in
       let few : undos .len ≤ 16 = omega (arith, undos-length undos, known-entry .fits .clauses .undoSize) in
-      ⊎-elim (λ w. appended-as _ _ _ _ (w .6) (w .7) (undos-appended (count .logs-first .result) undos few (w .3 .ensures)))
+      appended-of (λ k. undoRecords k (view (entry .args .state))) (count .logs-first .result) _ (count-here count)
+      (⊎-elim (λ w. appended-as _ _ _ _ (w .6) (w .7) (undos-appended (count .logs-first .result) undos few (w .3 .ensures)))
       (λ w.
       appended-as _ _ _ _ (w .1) (w .2)
       (logged-none (count .logs-first .result) (view (entry .args .state)) (entry .args .supply) (lent entry .log) (entry .args .state .tail) (w .0 .left)))
-      (c .if3 .came)
+      (c .if3 .came))
 
 mul-if4-2 : tie.Need-mul-if4-2
 mul-if4-2 c =
@@ -224,10 +236,8 @@ returns-3 c =
     let a = entry here .args in
     let made = here .if3 in
     let cleared = c .before .before .cut in
-    store-cut (a .state) (lent (entry here)) (a .thread) (a .word) (a .value) (a .supply) (late here .before .late-refusal .result) (entry here .pre .1)
-    (late-here (late here .before)) (late here .if2 .left) (count here .logs-first .result) (count-here (count here)) (cleared .result) (made .log)
-    (made .left) (logged here)
-    (cleared .last .0) (c .before .before .before .before .if4 .taken) (cleared .ensures .0) (cleared .ensures .1)
+    append-cut (appends here) (a .supply) (count here .logs-first .result) (cleared .result) (cleared .last .0) (made .log) (made .left) (counted here)
+    (c .before .before .before .before .if4 .taken) (logged here) (cleared .ensures .0) (cleared .ensures .1)
 
 mul-working : tie.Need-mul-working
 mul-working c = search needs
@@ -263,11 +273,9 @@ returns-4 c =
     let here = c .before .before in
     let a = entry here .args in
     let made = here .if3 in
-    store-done (a .state) (lent (entry here)) (a .thread) (a .word) (a .value) (a .supply) (late here .before .late-refusal .result) (entry here .pre .1)
-    (late-here (late here .before)) (late here .if2 .left) (count here .logs-first .result) (count-here (count here))
-    (record { answer = 0; left = made .left; state = c .next-state .result })
-    (made .log) (made .left) (logged here)
-    (c .before .if4 .left) refl refl (c .next-state .ensures (lent (entry here)) refl)
+    append-done (appends here) (a .supply) (count here .logs-first .result)
+    (record { answer = 0; left = made .left; state = c .next-state .result }) (made .log) (counted here) (c .before .if4 .left)
+    (logged here) refl (c .next-state .ensures (lent (entry here)) refl)
 
 pub stored-spec : {M : Type 1} → statement M
 stored-spec =

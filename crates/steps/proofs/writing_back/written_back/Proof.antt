@@ -1,6 +1,6 @@
 -- `written_back` meets its contract: refused, cut, or done.
 use Prim.Native.Nat.{ℕ}
-use mathlib.Core.Path.{_≡_, refl, _∙_, ap}
+use mathlib.Core.Path.{_≡_, refl, sym, _∙_, ap}
 use mathlib.Core.List.{List, []}
 use native.Mathlib.Omega.{arith}
 use Rattle.parts.proofs.FirstLines.{WholeLines}
@@ -38,6 +38,10 @@ number c =
     line-number (s .args .state) (s .args .line) 0 (c .line-refusal .result) [] (common-narrow (view (s .args .state)) (lent s) (s .pre .1)) (λ _. refl)
     (c .line-refusal .ensures ∙ ap (λ (ss : List ℕ). lineNumber (s .args .state .words) ss (s .args .line) 0) (s .pre .0))
 
+-- no row applies where the step goes on
+none : (c : tie.Else1) → numberOf (lineRows (view (start (c .before) .args .state)) (start (c .before) .args .line)) ≡ 0
+none c = sym (number (c .before)) ∙ c .if1 .left
+
 line-refusal-requires : tie.Need-line-refusal-requires
 line-refusal-requires c κs = search needs
 
@@ -71,18 +75,14 @@ returns-2 c =
     let began = passed stored in
     let s = start (began .before) in
     let a = s .args in
-    write-cut (a .line) (a .supply) (a .state) (lent s) (s .pre .1) (began .before .line-refusal .result) (number (began .before)) (began .if1 .left)
-    (stored .store-line .last .0) (stored .store-line .ensures .1)
-    (ended .cut .result) (ended .cut .last .0) (ended .before .before .if2 .taken) (ended .cut .ensures .0) (ended .cut .ensures .1)
+    write-cut (a .line) (a .supply) (a .state) (lent s) (s .pre .1) (none began) (ended .cut .result) (stored .store-line .last .0)
+    (stored .store-line .ensures .1) (ended .cut .last .0) (ended .before .before .if2 .taken) (ended .cut .ensures .0) (ended .cut .ensures .1)
 
 put-flag-requires : tie.Need-put-flag-requires
 put-flag-requires c κs =
-    let stored = c .before .before .before .before .before in
-    let began = passed stored in
+    let began = passed (c .before .before .before .before .before) in
     let s = start (began .before) in
-    let number = number (began .before) in
-    let f = write-fit (s .args .line) (s .args .supply) (s .args .state) (lent s) (s .pre .1) (began .before .line-refusal .result) number (began .if1 .left)
-    _ (stored .store-line .ensures .1) in
+    let f = write-fit (s .args .line) (s .args .supply) (s .args .state) (lent s) (s .pre .1) (none began) in
     omega arith
 
 same-length-3 : tie.Need-same-length-3
@@ -98,9 +98,9 @@ returns-3 c =
     let began = passed stored in
     let s = start (began .before) in
     let a = s .args in
-    write-done (a .line) (a .supply) (a .state) (lent s) (s .pre .1) (began .before .line-refusal .result) (number (began .before)) (began .if1 .left)
-    (stored .store-line .last .0) (stored .store-line .ensures .1) (stored .store-line .result)
-    (c .put-flag .last .0) (enough .if2 .left) (stored .store-line .ensures .0) (whole-lines s) (c .put-flag .ensures)
+    write-done (a .line) (a .supply) (a .state) (lent s) (s .pre .1) (none began) (record { answer = 0; left = stored .store-line .result; state = _ })
+    (stored .store-line .last .0) (stored .store-line .ensures .1)
+    (c .put-flag .last .0) (enough .if2 .left) refl (stored .store-line .ensures .0) refl (whole-lines s) (c .put-flag .ensures)
 
 pub written-back-spec : {M : Type 1} → statement M
 written-back-spec =

@@ -41,7 +41,7 @@ use Rattle.model.proofs.LineSteps.{evict-step, writeBack-safe, writeBac
 use Rattle.model.proofs.Committing.{commit-step}
 use Rattle.model.proofs.Deleting.{delete-step, begin-step}
 use Rattle.model.proofs.Lists.{every-right}
-use Rattle.model.proofs.Performing.{appendsIn, puts-append, puts-home, puts-head, appends-records, appends-home}
+use Rattle.model.proofs.Performing.{appendsIn, puts-append, puts-home, puts-head, appendsIn-records, appendsIn-home}
 use Rattle.model.proofs.Performing.{all-puts, written-home, written-log, cleared}
 use Rattle.model.proofs.Plans.{Does, Well, refuses, performs, well-ready}
 
@@ -155,7 +155,7 @@ module _ {l : ℕ} (m : Machine) (mem : Memory) (b : Book) (world : Live l m mem
       → Appends m (mem .home) b (world .rs) new next working (book 0) → Onward m next (length new)
       → Well l (m .span .tail) mem b book (appended new next working)
   appending {new} {next} {working} {book} room does onward =
-      performs 0 (map append new) next working (rw appends-records (onward .tail))
+      performs 0 (map append new) next working (rw appendsIn-records (onward .tail))
       (rw (slots-of (world .holds), puts-append, world .tail)
       (log-does stores next working (book 0) same
       (λ k h.
@@ -201,7 +201,7 @@ module _ {l : ℕ} (m : Machine) (mem : Memory) (b : Book) (world : Live l m mem
       → CoreOf next (stored (mem .home) hs) (mem .working) (book 0) (world .rs)
       → Well l (m .span .tail) mem b book (planned 0 (map writeHome hs) next (mem .working))
   writing hs {next} {book} onward safe core =
-      performs 0 (map writeHome hs) next (mem .working) (rw appends-home (onward .tail))
+      performs 0 (map writeHome hs) next (mem .working) (rw appendsIn-home (onward .tail))
       (rw puts-home
       (home-does hs next (mem .working) (book 0) refl
       (λ k h.

@@ -34,12 +34,12 @@ puts-then l n (append r ∷ ops) more =
 puts-then l n (writeHome s ∷ ops) more = ap (λ (ps : List Put). inHome s ∷ ps) (puts-then l n ops more)
 puts-then l n (setHead k ∷ ops) more = rw (puts-then l n ops more, append-assoc)
 
-pub appends-then : (ops more : List Op) → appendsIn (ops ++ more) ≡ appendsIn ops + appendsIn more
+pub appendsIn-then : (ops more : List Op) → appendsIn (ops ++ more) ≡ appendsIn ops + appendsIn more
 unfolding appendsIn
-appends-then [] more = omega arith
-appends-then (append r ∷ ops) more = let rest = appends-then ops more in omega arith
-appends-then (writeHome s ∷ ops) more = appends-then ops more
-appends-then (setHead k ∷ ops) more = appends-then ops more
+appendsIn-then [] more = omega arith
+appendsIn-then (append r ∷ ops) more = let rest = appendsIn-then ops more in omega arith
+appendsIn-then (writeHome s ∷ ops) more = appendsIn-then ops more
+appendsIn-then (setHead k ∷ ops) more = appendsIn-then ops more
 
 -- records appended, words written home, and the head set
 pub puts-append : (l n : ℕ) (rs : List Record) → putsOf l n (map append rs) ≡ map inLog (recordsStores l n rs)
@@ -58,15 +58,15 @@ pub puts-head : (l n k : ℕ) → putsOf l n (setHead k ∷ []) ≡ map inLog (h
 unfolding putsOf
 puts-head l n k = append-nil (map inLog (headStores l k))
 
-pub appends-records : (rs : List Record) → appendsIn (map append rs) ≡ length rs
+pub appendsIn-records : (rs : List Record) → appendsIn (map append rs) ≡ length rs
 unfolding appendsIn
-appends-records [] = refl
-appends-records (r ∷ rs) = ap suc (appends-records rs)
+appendsIn-records [] = refl
+appendsIn-records (r ∷ rs) = ap suc (appendsIn-records rs)
 
-pub appends-home : (hs : List Store) → appendsIn (map writeHome hs) ≡ 0
+pub appendsIn-home : (hs : List Store) → appendsIn (map writeHome hs) ≡ 0
 unfolding appendsIn
-appends-home [] = refl
-appends-home (h ∷ hs) = appends-home hs
+appendsIn-home [] = refl
+appendsIn-home (h ∷ hs) = appendsIn-home hs
 
 -- the memory after stores, then others
 parts-then : (ps qs : List Put)

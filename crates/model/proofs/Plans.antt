@@ -13,7 +13,7 @@ use Rattle.model.specs.Machine.{Machine, Memory}
 use Rattle.model.specs.Plan.{Op, Put, putsOf, logPart, Plan, refused, planned, Outcome, written, performed, carriedOut, preceded, andThen}
 use Rattle.model.specs.Book.{Book}
 use Rattle.model.proofs.Core.{Kept, Live, Ready, live, dark}
-use Rattle.model.proofs.Performing.{appendsIn, puts-then, appends-then, written-then, cleared, performed-all, performed-cut}
+use Rattle.model.proofs.Performing.{appendsIn, puts-then, appendsIn-then, written-then, cleared, performed-all, performed-cut}
 
 -- What the stores ps of a plan do: after fewer than all of them a power cut is safe, and after all the machine is live.
 pub record Does (l : ℕ) (mem : Memory) (ps : List Put) (next : Machine) (working : List ℕ) (before book : Book) : Type 0 where
@@ -84,7 +84,7 @@ well-then {l} {n} {mem} {before} between book then (performs a ops next working 
     go : (q : Plan) → Well l (next .span .tail) rest between book q → Well l n mem before book (preceded ops q)
     go q (refuses k h) = refuses k h
     go q (performs b more last after count does′) =
-        performs b (ops ++ more) last after (rw appends-then (omega arith))
+        performs b (ops ++ more) last after (rw appendsIn-then (omega arith))
         (rw puts-then
         (does-then mem (putsOf (slotsOf (mem .log)) n ops) _ next last working after before between (book b) does same
         (rw (slots, tail) at does′)))

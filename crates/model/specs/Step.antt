@@ -55,7 +55,7 @@ ownRows (commit t) m mem = commitRows m mem t
 ownRows deleteOldest m mem = deleteRows m mem
 ownRows recover m mem = recoverRows mem
 
--- records appended, and what is so afterwards
+-- a plan that only appends records
 abbrev pub appended : List Record → Machine → List ℕ → Plan
 appended records next working = planned done (map append records) next working
 

@@ -25,13 +25,13 @@ pub appended-of : {c n rest : ℕ} {before log : List ℕ} (f : ℕ → List Rec
 appended-of {c} {n} {rest} {before} {log} f k l e = subst (λ (j : ℕ). Appended c before n (f j) log rest) e
 
 -- such a step, the state being fit and its log having room
-pub record Appends (s : Step) (m : Machine) (mem : Memory) (records : List Record) (next : Machine) (working : List ℕ) : Type 0 where
+pub record AppendWay (s : Step) (m : Machine) (mem : Memory) (records : List Record) (next : Machine) (working : List ℕ) : Type 0 where
   pub way : Way s m mem (map append records) next working
   pub fits : Fit m mem
   pub room : Room m (length records)
 
 module _ {s : Step} {m : Machine} {mem : Memory} {records : List Record} {next : Machine} {working : List ℕ}
-    (appends : Appends s m mem records next working) (c : ℕ) where
+    (appends : AppendWay s m mem records next working) (c : ℕ) where
   -- its stores, three for each record
   abbrev stores : List Store
   stores = recordsStores (slotsOf (mem .log)) (m .span .tail) records

@@ -37,7 +37,7 @@ use Rattle.state.specs.declared.Fields.{Fields}
 use Rattle.state.specs.View.{view, memory}
 use Rattle.steps.specs.Committing.{HasEntries, Allowed}
 use Rattle.steps.proofs.Outcome.{width, common-fit}
-use Rattle.steps.proofs.Appending.{Appends}
+use Rattle.steps.proofs.Appending.{AppendWay}
 
 -- the number of records that a commit logs
 pub commit-size : (m : Machine) (mem : Memory) (t : ℕ)
@@ -168,7 +168,7 @@ module _ (s : Fields) (t : ℕ) (home working log : List ℕ) (count : ℕ) (all
   known-thread = omega (arith, ltb-false 7 t (none .0))
 
   -- it appends its records
-  pub commit-appends : Appends (commit t) (view s) mem records (commitNext (view s) mem t) working
+  pub commit-appends : AppendWay (commit t) (view s) mem records (commitNext (view s) mem t) working
   commit-appends =
       record {
         way = record { first = allowed .common; own = allowed .own; work = refl };

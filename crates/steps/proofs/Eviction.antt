@@ -34,7 +34,7 @@ use Rattle.logging.proofs.Appending.{Appended}
 use Rattle.state.specs.declared.Fields.{Fields}
 use Rattle.state.specs.View.{view, shown}
 use Rattle.steps.proofs.Outcome.{common-narrow}
-use Rattle.steps.proofs.Appending.{appended-of, Appends, append-done}
+use Rattle.steps.proofs.Appending.{appended-of, AppendWay, append-done}
 use Rattle.steps.proofs.LineRows.{LineFit, line-fit, lineNumber, line-number}
 
 -- no word is ULog where all are Clean
@@ -167,7 +167,7 @@ module _ (i : ℕ) (s : Fields) (mem : Memory) where
     evict-fit = line-fit (view s) mem i (noRoom (view s) mem (length (evictRecords (view s) mem i))) zero none
 
     -- it appends the records of the entries for which places lack
-    pub evict-appends : Appends (evict i) (view s) mem (evictRecords (view s) mem i) (evictNext (view s) mem i) (mem .working)
+    pub evict-appends : AppendWay (evict i) (view s) mem (evictRecords (view s) mem i) (evictNext (view s) mem i) (mem .working)
     evict-appends =
         record { way = record { first = zero; own = own; work = refl }; fits = evict-fit .fits; room = room (view s) mem _ (none .1 .1) }
 

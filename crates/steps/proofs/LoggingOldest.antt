@@ -74,15 +74,15 @@ module _ (k : ℕ) (ts ws vs : List ℕ) where
   redos-rest b whole some short t w v =
       rw (t, w, v) (redos-dropped 32 (b .len) (b .threads) (b .words) (b .redos) short whole k some)
 
--- the state with one more record, and with other lines and buffers
-abbrev pub oneLogged : Fields → Lines → UndoBuffer → RedoBuffer → Fields
-oneLogged s lines undos redos =
+-- the state with k records more, and with other lines and buffers
+abbrev pub withLogged : Fields → ℕ → Lines → UndoBuffer → RedoBuffer → Fields
+withLogged s k lines undos redos =
     record {
       lost = s .lost;
       words = s .words;
       slots = s .slots;
       head = s .head;
-      tail = s .tail + 1;
+      tail = s .tail + k;
       opened = s .opened;
       lines = lines;
       undos = undos;
@@ -130,18 +130,7 @@ known f places n at m mem k size sound e zero =
 
 -- the state whose k oldest undo+redo entries are logged, changed in place
 abbrev pub undosGone : Fields → ℕ → List ℕ → UndoBuffer → Fields
-undosGone s k ss rest =
-    record {
-      lost = s .lost;
-      words = s .words;
-      slots = s .slots;
-      head = s .head;
-      tail = s .tail + k;
-      opened = s .opened;
-      lines = withStates ss (s .lines);
-      undos = rest;
-      redos = s .redos;
-    }
+undosGone s k ss rest = withLogged s k (withStates ss (s .lines)) rest (s .redos)
 
 -- their words are marked, the others wait, and the tail is past their records
 pub undos-gone : (s : Fields) (k : ℕ) (ss : List ℕ) (rest : UndoBuffer) → WholeLines (s .lines) → length (s .undos .words) ≡ 16

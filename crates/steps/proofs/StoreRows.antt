@@ -17,7 +17,7 @@ use Rattle.model.proofs.Fit.{Fit}
 use Rattle.state.specs.declared.Fields.{Fields}
 use Rattle.state.specs.View.{view}
 use Rattle.steps.proofs.Outcome.{Width, width, common-fit}
-use Rattle.steps.proofs.Appending.{Appends}
+use Rattle.steps.proofs.Appending.{AppendWay}
 use Rattle.steps.proofs.Filing.{logs-most, undos-length}
 
 -- whether thread and word are known, the rows that are looked at first
@@ -71,7 +71,7 @@ module _ (s : Fields) (mem : Memory) (t w v : ℕ) where
   -- where no row applies, it appends the records of the entries that come first
   abbrev pub StoreAppends : Type 0
   StoreAppends =
-      Appends (store t w v) (view s) mem (storeRecords (view s) mem w v) (storeNext (view s) mem t w v (isSame mem w v)) (set (mem .working) w v)
+      AppendWay (store t w v) (view s) mem (storeRecords (view s) mem w v) (storeNext (view s) mem t w v (isSame mem w v)) (set (mem .working) w v)
 
   pub store-appends : numberOf (common (view s) mem) ≡ 0 → numberOf (storeRows (view s) mem t w v) ≡ 0 → StoreAppends
   store-appends zero own =

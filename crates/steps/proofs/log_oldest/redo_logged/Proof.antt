@@ -17,8 +17,8 @@ use Rattle.model.proofs.Outcomes.{refused-own}
 use Rattle.logging.proofs.Guards.{redos-appended}
 use Rattle.state.specs.declared.Fields.{Fields}
 use Rattle.state.specs.View.{view, memory}
-use Rattle.steps.proofs.Appending.{Appends, append-done, append-cut}
-use Rattle.steps.proofs.LoggingOldest.{WholeRedos, oldest, count-oldest, oneLogged, redos-rest, in-log, Known, known}
+use Rattle.steps.proofs.Appending.{AppendWay, append-done, append-cut}
+use Rattle.steps.proofs.LoggingOldest.{WholeRedos, oldest, count-oldest, withLogged, redos-rest, in-log, Known, known}
 use Rattle.steps.proofs.log_oldest.redo_logged.Statement.{statement}
 use Rattle.steps.proofs.log_oldest.redo_logged.Tie as tie
 
@@ -57,7 +57,7 @@ passed-known c =
 
 -- it appends the entry's record
 appends : (c : tie.Else1) → let s = start (c .before) in
-    Appends logRedo (view (s .args .t1)) (lent s) (records (s .args .t1)) (redosLogged 1 (view (s .args .t1))) (lent s .working)
+    AppendWay logRedo (view (s .args .t1)) (lent s) (records (s .args .t1)) (redosLogged 1 (view (s .args .t1))) (lent s .working)
 appends c =
     let k = passed-known c in
     record {
@@ -142,7 +142,7 @@ returns-3 c =
     let rest : redosWaiting left ≡ drop 1 (redosWaiting (s .redos)) =
     redos-rest 1 (threads .last .0) (words .last .0) (values .last .0) (s .redos) (whole-redos (start (begun .before))) (k .some) (k .short)
     (threads .ensures) (words .ensures) (values .ensures) in
-    let next = oneLogged s (s .lines) (s .undos) left in
+    let next = withLogged s 1 (s .lines) (s .undos) left in
     let same : view next ≡ redosLogged 1 (view s) = rw (rest, k .one) in
     append-done (appends begun) (a .supply) 1 (record { answer = 0; left = e .result; state = next }) (e .last .0) (k .one) (taken .if2 .left)
     (redos-appended 1 (s .redos) (k .short) (e .ensures)) refl same

@@ -18,7 +18,7 @@ use Rattle.model.proofs.Outcomes.{refused-own}
 use Rattle.logging.proofs.Guards.{undos-appended}
 use Rattle.state.specs.declared.Fields.{Fields}
 use Rattle.state.specs.View.{view, memory}
-use Rattle.steps.proofs.Appending.{Appends, append-done, append-cut}
+use Rattle.steps.proofs.Appending.{AppendWay, append-done, append-cut}
 use Rattle.steps.proofs.LoggingOldest.{WholeUndos, oldest, count-oldest, undosGone, undos-gone, undos-rest, in-log, Known, known}
 use Rattle.steps.proofs.log_oldest.undo_logged.Statement.{statement}
 use Rattle.steps.proofs.log_oldest.undo_logged.Tie as tie
@@ -61,7 +61,7 @@ passed-known c =
 
 -- it appends the entry's record
 appends : (c : tie.Else1) → let s = start (c .before) in
-    Appends logUndo (view (s .args .t1)) (lent s) (records (s .args .t1)) (undosLogged 1 (view (s .args .t1))) (lent s .working)
+    AppendWay logUndo (view (s .args .t1)) (lent s) (records (s .args .t1)) (undosLogged 1 (view (s .args .t1))) (lent s .working)
 appends c =
     let k = passed-known c in
     record {

@@ -15,3 +15,9 @@ pub struct Answer {
     pub left: u64,
     pub state: State,
 }
+
+// What begin hands back, which is lent no count: the answer's number, and the state.
+pub struct Begun {
+    pub answer: u64,
+    pub state: State,
+}

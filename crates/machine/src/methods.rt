@@ -1,11 +1,15 @@
 // The methods of the state.
 ghost use mathlib.Core.Path.{_≡_};
-ghost use mathlib.Core.List.{[]};
-ghost use Rattle.model.specs.Machine.{lostMachine};
+ghost use Prim.Native.Nat.{ℕ};
+ghost use lib.ListN.{length};
+ghost use Rattle.log.specs.Region.{slotsOf};
+ghost use Rattle.model.specs.Machine.{Memory, lostMachine};
 ghost use Rattle.model.specs.Step.{begin, store, logUndo, logRedo, evict, writeBack, commit, deleteOldest, recover, stepped};
 ghost use Rattle.state.specs.View.{memory};
-ghost use Rattle.machine.specs.View.{view, shown};
+ghost use Rattle.machine.specs.View.{view, shown, shownBegun, opening};
+ghost use Rattle.machine.specs.View.{lostState, freshState, takenState, HandedBack};
 use crate::Answer;
+use crate::Begun;
 use crate::State;
 use parts::Step;
 use state::Made;
@@ -25,7 +29,7 @@ fn answer(made: Made) -> Answer
 impl State {
     // "dark": the state that was lost
     pub fn lost() -> State
-        ensures { λ (r : State). ⌜ view r ≡ lostMachine ⌝ }
+        ensures { λ (r : State). ⌜ r ≡ lostState ⌝ }
     {
         State {
             fields: state::lost(),
@@ -43,19 +47,27 @@ impl State {
     ) -> Answer
         ensures { λ (r : Answer). ⌜ shown r (now (home .exit)) (now (working .exit)) (now (log .exit))
             ≡ stepped step supply (view self) (memory (now (home .entry)) (now (working .entry)) (now (log .entry))) ⌝ }
+        ensures { λ (r : Answer). ⌜ HandedBack (takenState step self) r ⌝ }
     {
         let fields = self.fields;
         answer(steps::make(fields, step, home, working, log, supply))
     }
 
-    // Lent no buffers and no supply: the count left is 0.
-    pub fn begin(self, thread: u64) -> Answer
-        ensures { λ (r : Answer). ⌜ shown r [] [] [] ≡ stepped (begin thread) 0 (view self) (memory [] [] []) ⌝ }
+    // Lent no buffers and no count: what it hands back is the same whatever these are.
+    pub fn begin(self, thread: u64) -> Begun
+        ensures { λ (r : Begun). ⌜ ((c : ℕ) (mem : Memory)
+            → shownBegun r ≡ opening (stepped (begin thread) c (view self) mem)) ⌝ }
+        ensures { λ (r : Begun). ⌜ ((r .answer ≡ 0 → ⊥) → r .state ≡ self) ⌝ }
     {
         let mut home = [0; 0];
         let mut working = [0; 0];
         let mut log = [0; 0];
-        self.step(Step::Begin { thread }, &mut home, &mut working, &mut log, 0)
+        let made = self.step(Step::Begin { thread }, &mut home, &mut working, &mut log, 0);
+        let state = made.state;
+        Begun {
+            answer: made.answer,
+            state,
+        }
     }
 
     // The value becomes the working one, under a claim of the line.
@@ -71,6 +83,7 @@ impl State {
     ) -> Answer
         ensures { λ (r : Answer). ⌜ shown r (now (home .exit)) (now (working .exit)) (now (log .exit))
             ≡ stepped (store thread word value) supply (view self) (memory (now (home .entry)) (now (working .entry)) (now (log .entry))) ⌝ }
+        ensures { λ (r : Answer). ⌜ HandedBack self r ⌝ }
     {
         self.step(
             Step::Store {
@@ -94,6 +107,7 @@ impl State {
     ) -> Answer
         ensures { λ (r : Answer). ⌜ shown r (now (home .exit)) (now (working .exit)) (now (log .exit))
             ≡ stepped logUndo supply (view self) (memory (now (home .entry)) (now (working .entry)) (now (log .entry))) ⌝ }
+        ensures { λ (r : Answer). ⌜ HandedBack self r ⌝ }
     {
         self.step(Step::LogUndo, home, working, log, supply)
     }
@@ -107,6 +121,7 @@ impl State {
     ) -> Answer
         ensures { λ (r : Answer). ⌜ shown r (now (home .exit)) (now (working .exit)) (now (log .exit))
             ≡ stepped logRedo supply (view self) (memory (now (home .entry)) (now (working .entry)) (now (log .entry))) ⌝ }
+        ensures { λ (r : Answer). ⌜ HandedBack self r ⌝ }
     {
         self.step(Step::LogRedo, home, working, log, supply)
     }
@@ -122,6 +137,7 @@ impl State {
     ) -> Answer
         ensures { λ (r : Answer). ⌜ shown r (now (home .exit)) (now (working .exit)) (now (log .exit))
             ≡ stepped (evict line) supply (view self) (memory (now (home .entry)) (now (working .entry)) (now (log .entry))) ⌝ }
+        ensures { λ (r : Answer). ⌜ HandedBack self r ⌝ }
     {
         self.step(Step::Evict { line }, home, working, log, supply)
     }
@@ -137,6 +153,7 @@ impl State {
     ) -> Answer
         ensures { λ (r : Answer). ⌜ shown r (now (home .exit)) (now (working .exit)) (now (log .exit))
             ≡ stepped (writeBack line) supply (view self) (memory (now (home .entry)) (now (working .entry)) (now (log .entry))) ⌝ }
+        ensures { λ (r : Answer). ⌜ HandedBack self r ⌝ }
     {
         self.step(Step::WriteBack { line }, home, working, log, supply)
     }
@@ -151,6 +168,7 @@ impl State {
     ) -> Answer
         ensures { λ (r : Answer). ⌜ shown r (now (home .exit)) (now (working .exit)) (now (log .exit))
             ≡ stepped (commit thread) supply (view self) (memory (now (home .entry)) (now (working .entry)) (now (log .entry))) ⌝ }
+        ensures { λ (r : Answer). ⌜ HandedBack self r ⌝ }
     {
         self.step(Step::Commit { thread }, home, working, log, supply)
     }
@@ -165,6 +183,7 @@ impl State {
     ) -> Answer
         ensures { λ (r : Answer). ⌜ shown r (now (home .exit)) (now (working .exit)) (now (log .exit))
             ≡ stepped deleteOldest supply (view self) (memory (now (home .entry)) (now (working .entry)) (now (log .entry))) ⌝ }
+        ensures { λ (r : Answer). ⌜ HandedBack self r ⌝ }
     {
         self.step(Step::DeleteOldest, home, working, log, supply)
     }
@@ -173,6 +192,9 @@ impl State {
     pub fn recover(home: &mut [u64], working: &mut [u64], log: &mut [u64], supply: u64) -> Answer
         ensures { λ (r : Answer). ⌜ shown r (now (home .exit)) (now (working .exit)) (now (log .exit))
             ≡ stepped recover supply lostMachine (memory (now (home .entry)) (now (working .entry)) (now (log .entry))) ⌝ }
+        ensures { λ (r : Answer). ⌜ HandedBack lostState r ⌝ }
+        ensures { λ (r : Answer). ⌜ (r .answer ≡ 0
+            → r .state ≡ freshState (length (now (home .entry))) (slotsOf (now (log .entry))) (r .state .fields .tail)) ⌝ }
     {
         answer(recovery::recover(home, working, log, supply))
     }

@@ -33,8 +33,8 @@ use Rattle.model.specs.Book.{Book, entered, noted}
 use Rattle.model.specs.Plan.{inHome, inLog, append, writeHome, setHead, Plan, planned, carriedOut}
 use Rattle.model.proofs.Core.{Live, Ready, width-limits, Kept, live, dark, kept, CoreOf, Safe, Appends}
 use Rattle.model.proofs.Core.{core-safe}
-use Rattle.model.proofs.Rows.{None, room, oldest-room, Positive, Guarded, refusedAs, allowed, guard, Room}
-use Rattle.model.proofs.Rows.{own-positive, first-positive}
+use Rattle.model.proofs.Rows.{None, room, oldest-room, IsRefusal, Refusals, Guarded, refusedAs, allowed, guard, Room}
+use Rattle.model.proofs.Rows.{own-refusals, first-refusals}
 use Rattle.model.proofs.Logging.{undos-step, redos-step}
 use Rattle.model.proofs.Storing.{store-step}
 use Rattle.model.proofs.LineSteps.{evict-step, writeBack-safe, writeBack-step}
@@ -68,7 +68,7 @@ pub guarded : {l : ℕ} (s : Step) (c : ℕ) (m : Machine) (mem : Memory) (b : B
 unfolding stepped planOf
 guarded {l} s c m mem b same ready works =
     subst (λ x. Ready l (carriedOut c x mem n plan .machine) (carriedOut c x mem n plan .memory) (noted s (carriedOut c x mem n plan .answer) b)) (sym same)
-    (well-ready c m (well (guard rows (workOf s m mem) positive)) ready (noted-not s b))
+    (well-ready c m (well (guard rows (workOf s m mem) refusals)) ready (noted-not s b))
   where
     n : ℕ
     n = m .span .tail
@@ -79,8 +79,8 @@ guarded {l} s c m mem b same ready works =
     plan : Plan
     plan = unless rows (workOf s m mem)
 
-    positive : Positive rows
-    positive = every-append (λ (r : Row). 0 < r .number) (firstRows s m mem) (ownRows s m mem) (first-positive s m mem) (own-positive s m mem)
+    refusals : Refusals rows
+    refusals = every-append IsRefusal (firstRows s m mem) (ownRows s m mem) (first-refusals s m mem) (own-refusals s m mem)
 
     well : Guarded rows (workOf s m mem) → Well l n mem b (λ a. noted s a b) plan
     well (refusedAs k h e) = rw e (refuses k h)

@@ -1,11 +1,11 @@
 -- Rows of refusals: the number of the first that applies, where none applies, and what it means that there is room.
 use Prim.Native.Nat.{ℕ, _+_, _≤_, _<_}
 use mathlib.Core.Path.{_≡_, refl, sym, ap}
-use mathlib.Core.Bool.{Bool, true, false, cond}
+use mathlib.Core.Bool.{Bool, true, false, cond, _&&_}
 use mathlib.Core.List.{List, [], _∷_, _++_}
 use mathlib.Core.Logic.{⊎-elim}
 use native.Mathlib.Omega.{arith}
-use borrow.Author.Tests.{ltb-false, le-ltb}
+use borrow.Author.Tests.{ltb-true, ltb-false, le-ltb}
 use lib.Dec.{ltb}
 use lib.ListN.{length}
 use Rattle.log.specs.declared.Record.{Record}
@@ -16,30 +16,52 @@ use Rattle.parts.specs.declared.Verdict.{Verdict}
 use Rattle.parts.specs.declared.Verdict.the-variants.{Nothing, Damaged, Open, Needed, Spare}
 use Rattle.model.specs.Lists.{isEmpty}
 use Rattle.model.specs.Machine.{Machine, Memory, freeSlots}
-use Rattle.model.specs.Plan.{Plan, refused}
+use Rattle.model.specs.Plan.{Plan, refused, done, cut}
 use Rattle.model.specs.Verdict.{verdict}
 use Rattle.model.specs.Refusals.{nothing, Row, row, unless, numberOf, noRoom}
 use Rattle.model.specs.Steps.{undoRecords, redoRecords, oldestRows, verdictRows}
 use Rattle.model.specs.Step.{Step, begin, store, logUndo, logRedo, evict, writeBack, commit, deleteOldest, recover, firstRows, ownRows}
-use Rattle.model.proofs.Lists.{every-left, either-false}
+use Rattle.model.proofs.Lists.{both-left, both-right, every-left, either-false}
 
 -- no row applies
 abbrev pub None : List Row → Type 0
 None rows = Every (λ r. r .applies ≡ false) rows
 
--- no row has the number 0
-abbrev pub Positive : List Row → Type 0
-Positive rows = Every (λ r. 0 < r .number) rows
+-- a refusal's number is neither that of done nor that of cut
+abbrev pub IsRefusal : Row → Type 0
+IsRefusal r = (ltb done (r .number) && ltb (r .number) cut) ≡ true
+
+abbrev pub Refusals : List Row → Type 0
+Refusals rows = Every IsRefusal rows
+
+above-done : (r : Row) → IsRefusal r → done < r .number
+above-done r e = ltb-true done (r .number) (both-left (ltb done (r .number)) (ltb (r .number) cut) e)
+
+below-cut : (r : Row) → IsRefusal r → r .number < cut
+below-cut r e = ltb-true (r .number) cut (both-right (ltb done (r .number)) (ltb (r .number) cut) e)
 
 -- where the number is 0, none applies
-pub none-apply : (rows : List Row) → Positive rows → numberOf rows ≡ 0 → None rows
+pub none-apply : (rows : List Row) → Refusals rows → numberOf rows ≡ 0 → None rows
 unfolding numberOf
-none-apply [] positive e = tt
-none-apply (r ∷ rows) positive e = pick (r .applies) refl (none-apply rows (positive .1))
+none-apply [] refusals e = tt
+none-apply (r ∷ rows) refusals e = pick (r .applies) refl (none-apply rows (refusals .1))
   where
     pick : (t : Bool) → r .applies ≡ t → (numberOf rows ≡ 0 → None rows) → None (r ∷ rows)
-    pick true f rest = absurd (let h = positive .0 in let z : r .number ≡ 0 = rw f at e in omega arith)
+    pick true f rest = absurd (let h = above-done r (refusals .0) in let z : r .number ≡ 0 = rw f at e in omega arith)
     pick false f rest = (f, rest (rw f at e))
+
+-- rows never give the number of cut
+pub uncut : (rows : List Row) → Refusals rows → (n : ℕ) → n ≡ numberOf rows → n ≡ cut → ⊥
+unfolding numberOf
+uncut [] refusals n e c = omega arith
+uncut (r ∷ rows) refusals n e c = pick (r .applies) refl (uncut rows (refusals .1) n)
+  where
+    pick : (t : Bool) → r .applies ≡ t → (n ≡ numberOf rows → n ≡ cut → ⊥) → ⊥
+    pick true f rest =
+        let h = below-cut r (refusals .0) in
+        let z : n ≡ r .number = rw f at e in
+        omega arith
+    pick false f rest = rest (rw f at e) c
 
 -- the number of rows of which the first are looked at first
 pub number-first : (xs ys : List Row) (n : ℕ) → n ≡ numberOf xs → (n ≡ 0 → ⊥) → n ≡ numberOf (xs ++ ys)
@@ -81,13 +103,13 @@ pub data Guarded (rows : List Row) (p : Plan) : Type 0 where
   refusedAs : (n : ℕ) → 0 < n → unless rows p ≡ refused n → Guarded rows p
   allowed : unless rows p ≡ p → None rows → Guarded rows p
 
-pub guard : (rows : List Row) (p : Plan) → Positive rows → Guarded rows p
+pub guard : (rows : List Row) (p : Plan) → Refusals rows → Guarded rows p
 unfolding unless
-guard [] p positive = allowed refl tt
-guard (r ∷ rows) p positive = pick (r .applies) refl (guard rows p (positive .1))
+guard [] p refusals = allowed refl tt
+guard (r ∷ rows) p refusals = pick (r .applies) refl (guard rows p (refusals .1))
   where
     pick : (t : Bool) → r .applies ≡ t → Guarded rows p → Guarded (r ∷ rows) p
-    pick true e rest = refusedAs (r .number) (positive .0) (rw e)
+    pick true e rest = refusedAs (r .number) (above-done r (refusals .0)) (rw e)
     pick false e (refusedAs n h f) = refusedAs n h (rw (e, f))
     pick false e (allowed f all) = allowed (rw (e, f)) (e, all)
 
@@ -115,39 +137,39 @@ pub no-records : (m : Machine) (mem : Memory) → None (noRoom m mem 0)
 unfolding noRoom
 no-records m mem = (le-ltb (freeSlots m) 0 (omega arith), (refl, tt))
 
--- no row of any step has the number 0
-pub room-positive : (m : Machine) (mem : Memory) (n : ℕ) → Positive (noRoom m mem n)
+-- the rows of every step are refusals
+pub room-refusals : (m : Machine) (mem : Memory) (n : ℕ) → Refusals (noRoom m mem n)
 unfolding noRoom
-room-positive m mem n = (omega arith, (omega arith, tt))
+room-refusals m mem n = (refl, (refl, tt))
 
-pub oldest-positive : (m : Machine) (mem : Memory) (records : List Record) → Positive (oldestRows m mem records)
-oldest-positive m mem records = every-append (λ (r : Row). 0 < r .number) (noRoom m mem _) _ (room-positive m mem _) (omega arith, tt)
+pub oldest-refusals : (m : Machine) (mem : Memory) (records : List Record) → Refusals (oldestRows m mem records)
+oldest-refusals m mem records = every-append IsRefusal (noRoom m mem _) _ (room-refusals m mem _) (refl, tt)
 
-verdict-positive : (v : Verdict) → Positive (verdictRows v)
-verdict-positive Nothing = (omega arith, tt)
-verdict-positive Damaged = (omega arith, tt)
-verdict-positive Open = (omega arith, tt)
-verdict-positive Needed = (omega arith, tt)
-verdict-positive Spare = tt
+verdict-refusals : (v : Verdict) → Refusals (verdictRows v)
+verdict-refusals Nothing = (refl, tt)
+verdict-refusals Damaged = (refl, tt)
+verdict-refusals Open = (refl, tt)
+verdict-refusals Needed = (refl, tt)
+verdict-refusals Spare = tt
 
-pub own-positive : (s : Step) (m : Machine) (mem : Memory) → Positive (ownRows s m mem)
-own-positive (begin t) m mem = (omega arith, (omega arith, tt))
-own-positive (store t w v) m mem = (omega arith, (omega arith, (omega arith, (omega arith, room-positive m mem _))))
-own-positive logUndo m mem = oldest-positive m mem (undoRecords 1 m)
-own-positive logRedo m mem = oldest-positive m mem (redoRecords 1 m)
-own-positive (evict i) m mem = (omega arith, (omega arith, room-positive m mem _))
-own-positive (writeBack i) m mem = (omega arith, (omega arith, tt))
-own-positive (commit t) m mem = (omega arith, (omega arith, room-positive m mem _))
-own-positive deleteOldest m mem = verdict-positive (verdict m mem)
-own-positive recover m mem = (omega arith, (omega arith, (omega arith, tt)))
+pub own-refusals : (s : Step) (m : Machine) (mem : Memory) → Refusals (ownRows s m mem)
+own-refusals (begin t) m mem = (refl, (refl, tt))
+own-refusals (store t w v) m mem = (refl, (refl, (refl, (refl, room-refusals m mem _))))
+own-refusals logUndo m mem = oldest-refusals m mem (undoRecords 1 m)
+own-refusals logRedo m mem = oldest-refusals m mem (redoRecords 1 m)
+own-refusals (evict i) m mem = (refl, (refl, room-refusals m mem _))
+own-refusals (writeBack i) m mem = (refl, (refl, tt))
+own-refusals (commit t) m mem = (refl, (refl, room-refusals m mem _))
+own-refusals deleteOldest m mem = verdict-refusals (verdict m mem)
+own-refusals recover m mem = (refl, (refl, (refl, tt)))
 
-pub first-positive : (s : Step) (m : Machine) (mem : Memory) → Positive (firstRows s m mem)
-first-positive (begin t) m mem = (omega arith, (omega arith, tt))
-first-positive (store t w v) m mem = (omega arith, (omega arith, (omega arith, tt)))
-first-positive logUndo m mem = (omega arith, (omega arith, (omega arith, tt)))
-first-positive logRedo m mem = (omega arith, (omega arith, (omega arith, tt)))
-first-positive (evict i) m mem = (omega arith, (omega arith, (omega arith, tt)))
-first-positive (writeBack i) m mem = (omega arith, (omega arith, (omega arith, tt)))
-first-positive (commit t) m mem = (omega arith, (omega arith, (omega arith, tt)))
-first-positive deleteOldest m mem = (omega arith, (omega arith, (omega arith, tt)))
-first-positive recover m mem = tt
+pub first-refusals : (s : Step) (m : Machine) (mem : Memory) → Refusals (firstRows s m mem)
+first-refusals (begin t) m mem = (refl, (refl, tt))
+first-refusals (store t w v) m mem = (refl, (refl, (refl, tt)))
+first-refusals logUndo m mem = (refl, (refl, (refl, tt)))
+first-refusals logRedo m mem = (refl, (refl, (refl, tt)))
+first-refusals (evict i) m mem = (refl, (refl, (refl, tt)))
+first-refusals (writeBack i) m mem = (refl, (refl, (refl, tt)))
+first-refusals (commit t) m mem = (refl, (refl, (refl, tt)))
+first-refusals deleteOldest m mem = (refl, (refl, (refl, tt)))
+first-refusals recover m mem = tt

@@ -70,9 +70,9 @@ unfolding storesOf
 length-stores w [] = refl
 length-stores w (x ∷ xs) = ap suc (length-stores (after w x) xs)
 
--- where a list is faithful and its last step is a recovery answered done, home equals the book after it
-pub faithful-last : (w : World) (xs : List Timed) (s : Timed) → Faithful w (xs ++ (s ∷ [])) → s .step ≡ recover
+-- where a list is faithful and a step of it is a recovery answered done, home equals the book after it
+pub faithful-at : (w : World) (xs : List Timed) (s : Timed) (ys : List Timed) → Faithful w (xs ++ (s ∷ ys)) → s .step ≡ recover
     → outcome (ran w xs) s .answer ≡ 0 → HomeCommitted (ran w (xs ++ (s ∷ [])))
 unfolding ran
-faithful-last w [] s all e done = all .0 e done
-faithful-last w (x ∷ xs) s all e done = faithful-last (after w x) xs s (all .1) e done
+faithful-at w [] s ys all e done = all .0 e done
+faithful-at w (x ∷ xs) s ys all e done = faithful-at (after w x) xs s ys (all .1) e done

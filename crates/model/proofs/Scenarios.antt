@@ -21,12 +21,12 @@ use Rattle.model.specs.Recovery.{redoWrites, undoWrites}
 use Rattle.model.specs.Step.{planOf, stepped}
 use Rattle.model.specs.Book.{settled, entered, noted}
 use Rattle.model.specs.Run.{after}
-use Rattle.model.specs.Scenarios.{scenarios, linesPass, end, passes}
+use Rattle.model.specs.Scenarios.{scenarios, linesPass, end, sameWords, passes}
 
 pub scenarios-pass : all passes scenarios ≡ true
 unfolding stored slotStores decoded slotsFor recordStores headStores isWritten readBack searched readFrom listed stateAt withState
     discarded amended keep all any stateIn holderIn dirtyIn changed marked wordsMarked allLogged lineLimits entryLimits withinLimits dirtyWait
     redoClean entriesHeld holdersOpen freeClean consistent consistentWith putsOf homePart logPart written performed carriedOut
     records judged verdict unless wrongLengths wrongSize isPending noRoom storeLogs storedAs storeNext evicted newestWords newestRedos
-    prepareRecords prepareNext released commitRecords redoWrites undoWrites planOf stepped settled entered noted after linesPass end passes
+    prepareRecords prepareNext released commitRecords redoWrites undoWrites planOf stepped settled entered noted after linesPass end sameWords passes
 scenarios-pass = refl

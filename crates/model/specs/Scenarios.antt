@@ -1,7 +1,7 @@
 -- Document 01, "Benches to try": P1 to P11 as a table of worked scenarios, each with all that the paper says of it; after them a scenario for
 -- each entry of "Plausible, and wrong" and for the edges of the supply, the free slots and a delete.
 use Prim.Native.Nat.{ℕ, _+_, _-_, _*_, _^_}
-use mathlib.Core.Bool.{Bool, true, _&&_}
+use mathlib.Core.Bool.{Bool, true, false, _&&_}
 use mathlib.Core.List.{List, [], _∷_, _++_}
 use lib.Dec.{eqb}
 use lib.ListN.{getD, replicate}
@@ -18,7 +18,8 @@ pub record Line : Type 0 where
   pub answer : ℕ
   pub stores : ℕ
 
--- the log's head at first, the steps, and what is expected at the end: words of the log by their place, word 0 of home and of working
+-- the log's head at first, the steps, and what is expected at the end: words of the log by their place, word 0 of home and
+-- of working; their other seven words are 0
 pub record Scenario : Type 0 where
   pub head : ℕ
   pub steps : List Line
@@ -56,12 +57,19 @@ unfoldable pub end : World → List Line → World
 end w [] = w
 end w (x ∷ xs) = end (after w (x .timed)) xs
 
+-- the same words, as many
+unfoldable pub sameWords : List ℕ → List ℕ → Bool
+sameWords [] [] = true
+sameWords [] (y ∷ ys) = false
+sameWords (x ∷ xs) [] = false
+sameWords (x ∷ xs) (y ∷ ys) = eqb x y && sameWords xs ys
+
 unfoldable pub passes : Scenario → Bool
 passes s =
     let last = end (startOf s) (s .steps) .memory in
     linesPass (startOf s) (s .steps) &&
     (all (λ x. eqb (getD (last .log) (x .at) 0) (x .value)) (s .log) &&
-    (eqb (getD (last .home) 0 0) (s .home) && eqb (getD (last .working) 0 0) (s .working)))
+    (sameWords (last .home) (s .home ∷ replicate 7 0) && sameWords (last .working) (s .working ∷ replicate 7 0)))
 
 -- word 0 of the log is the head; slot s is words 1+3s, 2+3s and 3+3s
 abbrev pub headIs : ℕ → Store

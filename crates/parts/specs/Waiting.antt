@@ -3,7 +3,7 @@ use Prim.Native.Nat.{ℕ, suc}
 use mathlib.Core.Bool.{cond}
 use mathlib.Core.List.{List, [], _∷_}
 use lib.Dec.{eqb}
-use lib.ListN.{getD}
+use lib.ListN.{getD, replicate}
 use Rattle.parts.specs.declared.Entry.{Entry}
 use Rattle.parts.specs.declared.UndoBuffer.{UndoBuffer}
 use Rattle.parts.specs.declared.RedoBuffer.{RedoBuffer}
@@ -25,6 +25,20 @@ undosWaiting b = waitingOf (b .len) (b .threads) (b .words) (b .undos) (b .redos
 -- those that wait in the redo buffer: there are no undos, so that each is 0
 abbrev pub redosWaiting : RedoBuffer → List Entry
 redosWaiting b = waitingOf (b .len) (b .threads) (b .words) [] (b .redos)
+
+-- buffers in which nothing waits, every place 0
+abbrev pub emptyUndos : UndoBuffer
+emptyUndos =
+    record {
+      undos = replicate 16 0;
+      redos = replicate 16 0;
+      len = 0;
+      threads = replicate 16 0;
+      words = replicate 16 0;
+    }
+
+abbrev pub emptyRedos : RedoBuffer
+emptyRedos = record { redos = replicate 32 0; len = 0; threads = replicate 32 0; words = replicate 32 0 }
 
 -- "a redo entry of that word is discarded": the oldest one
 unfoldable pub discarded : ℕ → List Entry → List Entry

@@ -4,13 +4,13 @@ use crate::closing::close_u8;
 use crate::closing::close_u16;
 use crate::closing::close_u64;
 ghost use mathlib.Core.Path.{_≡_};
-ghost use mathlib.Core.List.{[]};
 ghost use Rattle.parts.specs.Arrays.{closed};
-ghost use Rattle.parts.specs.Waiting.{redosWaiting};
+ghost use Rattle.parts.specs.Waiting.{emptyRedos};
 
 impl RedoBuffer {
+    // Nothing waits, and every place is 0.
     pub fn empty() -> RedoBuffer
-        ensures { λ (r : RedoBuffer). ⌜ redosWaiting r ≡ [] ⌝ }
+        ensures { λ (r : RedoBuffer). ⌜ r ≡ emptyRedos ⌝ }
     {
         RedoBuffer {
             len: 0,

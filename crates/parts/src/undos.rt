@@ -4,13 +4,13 @@ use crate::closing::close_u8;
 use crate::closing::close_u16;
 use crate::closing::close_u64;
 ghost use mathlib.Core.Path.{_≡_};
-ghost use mathlib.Core.List.{[]};
 ghost use Rattle.parts.specs.Arrays.{closed};
-ghost use Rattle.parts.specs.Waiting.{undosWaiting};
+ghost use Rattle.parts.specs.Waiting.{emptyUndos};
 
 impl UndoBuffer {
+    // Nothing waits, and every place is 0.
     pub fn empty() -> UndoBuffer
-        ensures { λ (r : UndoBuffer). ⌜ undosWaiting r ≡ [] ⌝ }
+        ensures { λ (r : UndoBuffer). ⌜ r ≡ emptyUndos ⌝ }
     {
         UndoBuffer {
             len: 0,

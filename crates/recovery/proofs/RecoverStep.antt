@@ -1,39 +1,37 @@
 -- A recovery by its parts: the numbers under which it is refused, its stores, and the state that follows.
-use Prim.Native.Nat.{ℕ, _+_, _-_, _/_, _%_, _≤_, _<_}
+use Prim.Native.Nat.{ℕ, _+_, _-_, _%_, _≤_, _<_}
 use mathlib.Core.Path.{_≡_, refl, sym, _∙_, ap}
 use mathlib.Core.Bool.{Bool, true, false, cond, _&&_, _||_, not}
-use mathlib.Core.List.{List, [], _++_, map}
+use mathlib.Core.List.{List, _++_, map}
 use native.Mathlib.Numerals.{add-one}
 use native.Mathlib.Omega.{arith}
 use borrow.Author.Tests.{leb-true, eqb-true, eqb-false, not-false}
 use lib.Dec.{eqb, ltb, leb}
-use lib.ListN.{length, getD, set, take, replicate, length-append, length-map}
+use lib.ListN.{length, getD, set, take, length-append, length-map}
 use lib.Seq.{take-all, take-suc, take-suc-set}
 use Rattle.log.specs.Stores.{Store, stored, storedUnder}
 use Rattle.log.specs.Region.{numbers, slotsOf, headOf, tailOf, recordsOf, headStores}
 use Rattle.log.proofs.Stored.{under-none}
 use Rattle.log.proofs.Sizes.{sized}
 use Rattle.log.proofs.Holding.{size-of-head}
-use Rattle.parts.specs.declared.RedoBuffer.{RedoBuffer}
-use Rattle.parts.specs.declared.UndoBuffer.{UndoBuffer}
-use Rattle.parts.specs.declared.Lines.{Lines}
-use Rattle.parts.specs.Waiting.{undosWaiting, redosWaiting}
-use Rattle.parts.specs.Lines.{freeLine, freeLines, firstLines}
-use Rattle.parts.proofs.FirstLines.{first-free}
 use Rattle.model.specs.Lists.{any}
 use Rattle.model.specs.Consistent.{isWidth}
 use Rattle.model.specs.Machine.{Machine, Memory, lostMachine, freshMachine}
-use Rattle.model.specs.Plan.{inHome, inLog, putsOf, Outcome, written, carriedOut}
+use Rattle.model.specs.Plan.{inHome, inLog, putsOf, written, carriedOut}
 use Rattle.model.specs.Readings.{isBad}
 use Rattle.model.specs.Refusals.{numberOf, wrongLengths}
 use Rattle.model.specs.Recovery.{recoverRows, homeWrites, recoverOps, recoverWorking}
 use Rattle.model.specs.Step.{recover, workOf, planOf, stepped}
 use Rattle.model.proofs.Lists.{both-left, both-right}
 use Rattle.model.proofs.Records.{both-fail}
-use Rattle.model.proofs.Rows.{None, none-apply, number-first, refusedAs, allowed, guard, own-positive}
+use Rattle.model.proofs.Rows.{None, none-apply, uncut, number-first, refusedAs, allowed, guard, own-refusals}
 use Rattle.model.proofs.Performing.{puts-then, puts-home, puts-head, written-both, cleared}
 use Rattle.model.proofs.Outcomes.{refused-own, way-done, way-cut}
-use Rattle.state.specs.View.{view}
+use Rattle.state.specs.declared.Fields.{Fields}
+use Rattle.state.specs.declared.Made.{Made}
+use Rattle.state.specs.View.{view, memory, shown}
+use Rattle.state.specs.HandedBack.{lostFields, freshFields, HandedBack}
+use Rattle.state.proofs.HandedBack.{lost-view, fresh-view, refused-back, cut-back, done-back}
 use Rattle.recovery.specs.declared.replaying.Replayed.{Replayed}
 use Rattle.recovery.specs.Replaying.{replayStores, replayed}
 use Rattle.recovery.specs.Recovering.{unreadableRows}
@@ -47,33 +45,6 @@ copied-more i xs ys same h e =
 
 pub copied-all : (i : ℕ) (xs ys : List ℕ) → length xs ≡ length ys → length ys ≤ i → take i xs ≡ take i ys → xs ≡ ys
 copied-all i xs ys same h e = sym (take-all i xs (omega arith)) ∙ e ∙ take-all i ys h
-
--- the state after a recovery, by its parts
-pub fresh-view : (words slots tail : ℕ) (ls : Lines) (u : UndoBuffer) (r : RedoBuffer)
-    → words ≤ 512 → ls ≡ freeLines → undosWaiting u ≡ [] → redosWaiting r ≡ []
-    → view (record {
-      lost = false;
-      words = words;
-      slots = slots;
-      head = tail;
-      tail = tail;
-      opened = replicate 8 false;
-      lines = ls;
-      undos = u;
-      redos = r;
-    })
-    ≡ freshMachine words slots tail
-fresh-view words slots tail ls u r h l e f =
-    let lines : firstLines (words / 8) ls ≡ replicate (words / 8) freeLine = ap (firstLines (words / 8)) l ∙ first-free (words / 8) (omega arith) in
-    λ i.
-    record {
-      lost = false;
-      sizes = record { words = words; slots = slots };
-      span = record { head = tail; tail = tail };
-      opened = replicate 8 false;
-      lines = lines i;
-      buffers = record { undoRedo = e i; redo = f i };
-    }
 
 -- the buffers are of lengths that a recovery takes
 pub record Readable (mem : Memory) : Type 0 where
@@ -133,7 +104,7 @@ module _ (mem : Memory) where
   -- Where it is read.
   module _ (zero : 0 ≡ numberOf (unreadableRows mem)) where
     unread-none : None (unreadableRows mem)
-    unread-none = none-apply (unreadableRows mem) (omega arith, (omega arith, tt)) (sym zero)
+    unread-none = none-apply (unreadableRows mem) (refl, (refl, tt)) (sym zero)
 
     pub fits-unread : Readable mem
     fits-unread = readable mem (unread-none .0)
@@ -147,39 +118,45 @@ module _ (mem : Memory) where
     unfolding numberOf
     damage b e = rw (unread-none .0, unread-none .1 .0, ← e)
 
-  -- What the code hands back and leaves is what the step comes to.
+  -- What the code hands back and leaves is what the step comes to, its state the lost one or, if it is done, a fresh one.
+  abbrev Comes : ℕ → Made → List ℕ → List ℕ → List ℕ → Type 0
+  Comes c r home working log =
+      (shown r home working log ≡ stepped recover c lostMachine mem) ×
+      (HandedBack lostFields r ×
+      (r .answer ≡ 0 → r .state ≡ freshFields (length (mem .home)) (slotsOf (mem .log)) (r .state .tail)))
+
   module _ (c : ℕ) where
     -- refused: all is as it was
-    refused-with : (n : ℕ) → n ≡ numberOf (recoverRows mem) → (n ≡ 0 → ⊥) → (a l : ℕ) (m : Machine)
-        → (a ≡ n) × ((l ≡ c) × (m ≡ lostMachine))
-        → record { answer = a; left = l; machine = m; memory = mem } ≡ stepped recover c lostMachine mem
+    refused-with : (n : ℕ) → n ≡ numberOf (recoverRows mem) → (n ≡ 0 → ⊥) → (r : Made)
+        → r ≡ record { answer = n; left = c; state = lostFields } → Comes c r (mem .home) (mem .working) (mem .log)
     unfolding numberOf
-    refused-with n e some a l m f =
-        rw (f .0, f .1 .0, f .1 .1) (refused-own recover c lostMachine mem refl n e some refl)
+    refused-with n e some r f = (
+      ap (λ (x : Made). shown x (mem .home) (mem .working) (mem .log)) f
+          ∙ ap (λ (m : Machine). record { answer = n; left = c; machine = m; memory = mem }) lost-view
+          ∙ refused-own recover c lostMachine mem refl n e some refl,
+      (
+        refused-back lostFields r n c (uncut (recoverRows mem) (own-refusals recover lostMachine mem) n e) f,
+        λ z. absurd (some (sym (ap (λ (x : Made). x .answer) f) ∙ z)),
+      ),
+    )
 
-    pub recover-unread : (n : ℕ) → n ≡ numberOf (unreadableRows mem) → (n ≡ 0 → ⊥) → (a l : ℕ) (m : Machine)
-        → (a ≡ n) × ((l ≡ c) × (m ≡ lostMachine))
-        → record { answer = a; left = l; machine = m; memory = mem } ≡ stepped recover c lostMachine mem
+    pub recover-unread : (n : ℕ) → n ≡ numberOf (unreadableRows mem) → (n ≡ 0 → ⊥) → (r : Made)
+        → r ≡ record { answer = n; left = c; state = lostFields } → Comes c r (mem .home) (mem .working) (mem .log)
     recover-unread n e some = refused-with n (number-first (unreadableRows mem) _ n e some) some
 
     -- The log is read, and replayed.
     module _ (zero : 0 ≡ numberOf (unreadableRows mem)) (d : Replayed)
-        (out : d ≡ replayed (length (mem .home)) c (mem .log)) (a l : ℕ) (m : Machine) (home working log : List ℕ)
+        (out : d ≡ replayed (length (mem .home)) c (mem .log)) (r : Made) (home working log : List ℕ)
         (stores : home ≡ storedUnder c (mem .home) (replayStores (length (mem .home)) (mem .log))) where
-      -- what is handed back and left
-      abbrev given : Outcome
-      given =
-          record { answer = a; left = l; machine = m; memory = record { home = home; working = working; log = log } }
-
       bad : d .bad ≡ any isBad (recordsOf (length (mem .home)) (mem .log))
       bad = ap (λ (x : Replayed). x .bad) out
 
       -- damaged: nothing is stored
-      pub recover-damaged : d .bad ≡ true → (a ≡ 14) × ((l ≡ c) × (m ≡ lostMachine)) → working ≡ mem .working
-          → log ≡ mem .log → given ≡ stepped recover c lostMachine mem
+      pub recover-damaged : d .bad ≡ true → r ≡ record { answer = 14; left = c; state = lostFields }
+          → working ≡ mem .working → log ≡ mem .log → Comes c r home working log
       recover-damaged e f w g =
           let none = under-none c (mem .home) (replayStores (length (mem .home)) (mem .log)) (rw (← bad, e)) in
-          rw (stores, ← none .1, w, g) (refused-with 14 (damage zero true (sym e ∙ bad)) (λ z. omega arith) a l m f)
+          rw (stores, ← none .1, w, g) (refused-with 14 (damage zero true (sym e ∙ bad)) (λ z. omega arith) r f)
 
       module _ (good : d .bad ≡ false)
           (head : log ≡ storedUnder (d .left) (mem .log) (headStores (slotsOf (mem .log)) (d .tail))) where
@@ -202,21 +179,24 @@ module _ (mem : Memory) where
         buffers working = rw (first-stores 0 c working, stores, all-stores, head, less, tail)
 
         -- cut: not all stores are made
-        pub recover-cut : d .left ≡ 0 → (a ≡ 255) × ((l ≡ 0) × (m ≡ lostMachine)) → working ≡ cleared mem
-            → given ≡ stepped recover c lostMachine mem
+        pub recover-cut : d .left ≡ 0 → r ≡ record { answer = 255; left = 0; state = lostFields } → working ≡ cleared mem
+            → Comes c r home working log
         unfolding numberOf
         recover-cut none f w =
             let e = one zero in
             let h = less in
-            let size = made-size 0 in
-            rw (f .0, f .1 .0, f .1 .1, buffers working, w)
-            (sym (way-cut recover c lostMachine mem refl 0 none-bad refl _ _ _ refl (omega arith)))
+            let size = made-size 0 in (
+              ap (λ (x : Made). shown x home working log) f
+                  ∙ ap (λ (m : Machine). record { answer = 255; left = 0; machine = m; memory = memory home working log }) lost-view
+                  ∙ (rw (buffers working, w)
+                  (sym (way-cut recover c lostMachine mem refl 0 none-bad refl _ _ _ refl (omega arith)))),
+              (cut-back lostFields r f, λ z. absurd (omega (arith, ap (λ (x : Made). x .answer) f, z))),
+            )
 
         -- done: working becomes home, and the state is fresh
-        pub recover-done : (d .left ≡ 0 → ⊥) → (slots : ℕ) → slots ≡ slotsOf (mem .log) → a ≡ 0
-            → l ≡ d .left - length (headStores (slotsOf (mem .log)) (d .tail))
-            → m ≡ freshMachine (length (mem .home)) slots (d .tail) → working ≡ home
-            → given ≡ stepped recover c lostMachine mem
+        pub recover-done : (d .left ≡ 0 → ⊥) → (slots : ℕ) → slots ≡ slotsOf (mem .log) → r .answer ≡ 0
+            → r .left ≡ d .left - length (headStores (slotsOf (mem .log)) (d .tail))
+            → r .state ≡ freshFields (length (mem .home)) slots (d .tail) → working ≡ home → Comes c r home working log
         unfolding numberOf
         recover-done some slots size f g h w =
             let k = less in
@@ -224,18 +204,23 @@ module _ (mem : Memory) where
             let last : length (headStores (slotsOf (mem .log)) (d .tail)) ≡ 1 = rw tail (one zero) in
             let n : length puts ≡ length (homeWrites mem) + 1 = rw (made-size 0, one zero) in
             let fits : length puts ≤ c = omega arith in
-            let left : l ≡ c - length puts = omega arith in
+            let left : r .left ≡ c - length puts = omega arith in
             let all : storedUnder c (mem .home) (homeWrites mem) ≡ recoverWorking mem =
             ap (stored (mem .home)) (take-all c (homeWrites mem) (omega arith)) in
             let same : working ≡ recoverWorking mem = w ∙ stores ∙ (rw all-stores all) in
-            rw (f, left, h, size, tail, buffers working, same, take-all c puts fits)
-            (sym (way-done recover c lostMachine mem refl 0 none-bad refl _ _ _ refl fits))
+            let fresh : view (r .state) ≡ freshMachine (length (mem .home)) slots (d .tail) =
+            ap view h ∙ fresh-view (length (mem .home)) slots (d .tail) (fits-unread zero .width) in
+            let end : r .state .tail ≡ d .tail = ap (λ (x : Fields). x .tail) h in (
+              rw (f, left, fresh, size, tail, buffers working, same, take-all c puts fits)
+                  (sym (way-done recover c lostMachine mem refl 0 none-bad refl _ _ _ refl fits)),
+              (done-back lostFields r f, λ z. h ∙ rw (end, size)),
+            )
 
 -- "takes no state": a recovery is the same from any
 pub recover-any : (c : ℕ) (m : Machine) (mem : Memory) → stepped recover c m mem ≡ stepped recover c lostMachine mem
 unfolding stepped carriedOut planOf
 recover-any c m mem =
-    elim (guard (recoverRows mem) (workOf recover m mem) (own-positive recover m mem)) [
+    elim (guard (recoverRows mem) (workOf recover m mem) (own-refusals recover m mem)) [
       | refusedAs n h e ↦ rw e
       | allowed e none ↦ rw (e, made mem (m .span .tail), made mem 0)
     ]

@@ -1,11 +1,12 @@
 // "Recover: takes no state": home is brought to the committed values by the log, and all else follows home and the log's tail.
 ghost use mathlib.Core.Path.{_≡_};
-ghost use Prim.Native.Nat.{_≤_};
 ghost use lib.ListN.{length};
-ghost use Rattle.model.specs.Machine.{lostMachine, freshMachine};
+ghost use Rattle.log.specs.Region.{slotsOf};
+ghost use Rattle.model.specs.Machine.{lostMachine};
 ghost use Rattle.model.specs.Refusals.{numberOf};
 ghost use Rattle.model.specs.Step.{recover as recoverStep, stepped};
-ghost use Rattle.state.specs.View.{view, memory, shown};
+ghost use Rattle.state.specs.View.{memory, shown};
+ghost use Rattle.state.specs.HandedBack.{lostFields, freshFields, HandedBack};
 ghost use Rattle.recovery.specs.Recovering.{unreadableRows};
 use crate::replaying::replay;
 use log::NUMBERS;
@@ -49,7 +50,7 @@ fn unreadable(home: &[u64], working: &[u64], log: &[u64]) -> u64
 
 // "a refused recover hands back a dark state"
 fn refused(number: u64, supply: u64) -> Made
-    ensures { λ (r : Made). ⌜ (r .answer ≡ number) × ((r .left ≡ supply) × (view (r .state) ≡ lostMachine)) ⌝ }
+    ensures { λ (r : Made). ⌜ r ≡ record { answer = number; left = supply; state = lostFields } ⌝ }
 {
     Made {
         answer: number,
@@ -60,8 +61,7 @@ fn refused(number: u64, supply: u64) -> Made
 
 // "the new state has empty buffers, all Clean, unheld, not dirty, no transaction"
 fn fresh_state(words: u16, slots: u16, tail: u64) -> Fields
-    requires { ⌜ words ≤ 512 ⌝ }
-    ensures { λ (r : Fields). ⌜ view r ≡ freshMachine words slots tail ⌝ }
+    ensures { λ (r : Fields). ⌜ r ≡ freshFields words slots tail ⌝ }
 {
     Fields {
         lost: false,
@@ -80,6 +80,9 @@ fn fresh_state(words: u16, slots: u16, tail: u64) -> Fields
 pub fn recover(home: &mut [u64], working: &mut [u64], log: &mut [u64], supply: u64) -> Made
     ensures { λ (r : Made). ⌜ shown r (now (home .exit)) (now (working .exit)) (now (log .exit))
         ≡ stepped recoverStep supply lostMachine (memory (now (home .entry)) (now (working .entry)) (now (log .entry))) ⌝ }
+    ensures { λ (r : Made). ⌜ HandedBack lostFields r ⌝ }
+    ensures { λ (r : Made). ⌜ (r .answer ≡ 0
+        → r .state ≡ freshFields (length (now (home .entry))) (slotsOf (now (log .entry))) (r .state .tail)) ⌝ }
 {
     let number = unreadable(home, working, log);
     if number != 0 {

@@ -99,6 +99,7 @@ pub fn run(
         (view state) (memory (now (home .entry)) (now (working .entry)) (now (log .entry)))
         (now (answers .entry)) (now (stores .entry))
         ⌝ }
+    ensures { λ (r : Ran). ⌜ ((r .answer ≡ 0 → ⊥) → r .state ≡ state) ⌝ }
 {
     if !is_runnable(kinds, threads, places, values, supplies, answers, stores) {
         return Ran {

@@ -1,2 +1,3 @@
 -- What the code's state means.
 pub mod View
+pub mod HandedBack

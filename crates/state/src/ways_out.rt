@@ -1,8 +1,7 @@
 // What a loss of supply leaves: the lost state, and a step that was cut.
 ghost use mathlib.Core.Path.{_≡_};
 ghost use lib.ListN.{length, replicate};
-ghost use Rattle.model.specs.Machine.{lostMachine};
-ghost use Rattle.state.specs.View.{view};
+ghost use Rattle.state.specs.HandedBack.{lostFields};
 use crate::CUT;
 use crate::Fields;
 use crate::Made;
@@ -13,7 +12,7 @@ use parts::UndoBuffer;
 
 // "dark: one fixed value, its other numbers 0"
 pub fn lost() -> Fields
-    ensures { λ (r : Fields). ⌜ view r ≡ lostMachine ⌝ }
+    ensures { λ (r : Fields). ⌜ r ≡ lostFields ⌝ }
 {
     Fields {
         lost: true,
@@ -34,7 +33,7 @@ pub fn lost() -> Fields
 
 // "the answer is 255 (cut), the count left is 0, all working words become 0, and the returned state is dark"
 pub fn cut(working: &mut [u64]) -> Made
-    ensures { λ (r : Made). ⌜ (r .answer ≡ 255) × ((r .left ≡ 0) × (view (r .state) ≡ lostMachine)) ⌝ }
+    ensures { λ (r : Made). ⌜ r ≡ record { answer = 255; left = 0; state = lostFields } ⌝ }
     ensures { λ (r : Made). ⌜ now (working .exit) ≡ replicate (length (now (working .entry))) 0 ⌝ }
 {
     clear(working);

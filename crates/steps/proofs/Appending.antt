@@ -10,14 +10,15 @@ use Rattle.log.specs.Region.{slotsOf, recordsStores}
 use Rattle.log.proofs.Appending.{size-of-records}
 use Rattle.model.specs.Machine.{Machine, Memory}
 use Rattle.model.specs.Plan.{inLog, append, putsOf, written}
-use Rattle.model.specs.Step.{Step, stepped}
+use Rattle.model.specs.Step.{Step}
 use Rattle.model.proofs.Performing.{puts-append, written-log, cleared}
 use Rattle.model.proofs.Rows.{Room}
 use Rattle.model.proofs.Fit.{Fit}
 use Rattle.logging.proofs.Appending.{Appended}
+use Rattle.state.specs.declared.Fields.{Fields}
 use Rattle.state.specs.declared.Made.{Made}
-use Rattle.state.specs.View.{view, shown}
-use Rattle.steps.proofs.Outcome.{IsCut, Way, done-way, cut-way}
+use Rattle.state.specs.View.{view}
+use Rattle.steps.proofs.Outcome.{IsCut, Comes, Way, done-way, cut-way}
 
 -- the same records, by another count
 pub appended-of : {c n rest : ℕ} {before log : List ℕ} (f : ℕ → List Record) (k l : ℕ) → k ≡ l → Appended c before n (f k) log rest
@@ -54,14 +55,14 @@ module _ {s : Step} {m : Machine} {mem : Memory} {records : List Record} {next :
   left-by log after e = rw (e, made, written-log mem c stores after)
 
   -- done: the supply was enough
-  pub append-done : (k : ℕ) (r : Made) (log : List ℕ) → length records ≡ k → 3 * k ≤ c → Appended c (mem .log) (m .span .tail) records log (r .left)
-      → r .answer ≡ 0 → view (r .state) ≡ next → shown r (mem .home) working log ≡ stepped s c m mem
-  append-done k r log count h a answer state =
+  pub append-done : {taken : Fields} → (k : ℕ) (r : Made) (log : List ℕ) → length records ≡ k → 3 * k ≤ c → Appended c (mem .log) (m .span .tail) records log (r .left)
+      → r .answer ≡ 0 → view (r .state) ≡ next → Comes s c m mem taken r (mem .home) working log
+  append-done {taken} k r log count h a answer state =
       done-way (appends .way) c r (mem .home) log (rw (size, count) h) answer (a .left ∙ ap (λ n. c - n) (three ∙ sym size)) state
       (left-by log working (a .log))
 
   -- cut: it was not
-  pub append-cut : (k : ℕ) (r : Made) (after log : List ℕ) (rest : ℕ) → length records ≡ k → c < 3 * k
-      → Appended c (mem .log) (m .span .tail) records log rest → IsCut r → after ≡ cleared mem → shown r (mem .home) after log ≡ stepped s c m mem
-  append-cut k r after log rest count h a answer clear =
+  pub append-cut : {taken : Fields} → (k : ℕ) (r : Made) (after log : List ℕ) (rest : ℕ) → length records ≡ k → c < 3 * k
+      → Appended c (mem .log) (m .span .tail) records log rest → IsCut r → after ≡ cleared mem → Comes s c m mem taken r (mem .home) after log
+  append-cut {taken} k r after log rest count h a answer clear =
       cut-way (appends .way) c r (mem .home) log after (rw (size, count) h) answer clear (left-by log (cleared mem) (a .log))

@@ -28,7 +28,7 @@ use Rattle.model.specs.Steps.{newestWords, newestRedos, prepareRecords, prepare
 use Rattle.model.specs.Step.{commit}
 use Rattle.model.proofs.Lists.{both-left, every-kept, every-listed}
 use Rattle.model.proofs.Lines.{holder-marked, holder-logged}
-use Rattle.model.proofs.Rows.{None, none-apply, own-positive, room}
+use Rattle.model.proofs.Rows.{None, none-apply, own-refusals, room}
 use Rattle.logging.specs.Newest.{linesOf}
 use Rattle.logging.specs.Records.{commitRecordsOf}
 use Rattle.logging.proofs.Appending.{Appended}
@@ -162,7 +162,7 @@ module _ (s : Fields) (t : ℕ) (home working log : List ℕ) (count : ℕ) (all
   records = commitRecords (view s) mem t
 
   none : None (commitRows (view s) mem t)
-  none = none-apply (commitRows (view s) mem t) (own-positive (commit t) (view s) mem) (allowed .own)
+  none = none-apply (commitRows (view s) mem t) (own-refusals (commit t) (view s) mem) (allowed .own)
 
   pub known-thread : t < 8
   known-thread = omega (arith, ltb-false 7 t (none .0))

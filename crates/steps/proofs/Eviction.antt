@@ -25,7 +25,7 @@ use Rattle.model.specs.Refusals.{numberOf, common, noRoom}
 use Rattle.model.specs.Steps.{evicted, lacking, redoRecord, redoRecords, redosLogged, evictRecords, evictRows, evictNext}
 use Rattle.model.specs.Step.{evict, stepped}
 use Rattle.model.proofs.LinesInUse.{line-in-use, first-changed}
-use Rattle.model.proofs.Rows.{None, none-apply, own-positive, room}
+use Rattle.model.proofs.Rows.{None, none-apply, own-refusals, room}
 use Rattle.line_walks.specs.Walks.{ulogWords, refilled, wordsIn, valuesIn}
 use Rattle.line_walks.proofs.Refilled.{ulogEntry, entries-refilled}
 use Rattle.line_walks.proofs.WordStates.{withStates, state-put}
@@ -33,7 +33,7 @@ use Rattle.logging.proofs.LineWords.{keep-below}
 use Rattle.logging.proofs.Appending.{Appended}
 use Rattle.state.specs.declared.Fields.{Fields}
 use Rattle.state.specs.View.{view, shown}
-use Rattle.steps.proofs.Outcome.{common-narrow}
+use Rattle.steps.proofs.Outcome.{common-narrow, Comes}
 use Rattle.steps.proofs.Appending.{appended-of, AppendWay, append-done}
 use Rattle.steps.proofs.LineRows.{LineFit, line-fit, lineNumber, line-number}
 
@@ -160,7 +160,7 @@ module _ (i : ℕ) (s : Fields) (mem : Memory) where
 
   module _ (zero : numberOf (common (view s) mem) ≡ 0) (own : numberOf (evictRows (view s) mem i) ≡ 0) where
     none : None (evictRows (view s) mem i)
-    none = none-apply (evictRows (view s) mem i) (own-positive (evict i) (view s) mem) own
+    none = none-apply (evictRows (view s) mem i) (own-refusals (evict i) (view s) mem) own
 
     -- what is known where it is not refused
     pub evict-fit : LineFit (view s) mem i
@@ -175,7 +175,7 @@ module _ (i : ℕ) (s : Fields) (mem : Memory) where
     pub evict-done : (c count : ℕ) → count ≡ lacking (view s) mem i → count ≤ s .redos .len → (log : List ℕ) (rest : ℕ)
         → Appended c (mem .log) (s .tail) (redoRecords count (view s)) log rest → 3 * count ≤ c → WholeLines (s .lines) → (grown : RedoBuffer) (ss : List ℕ)
         → redosWaiting grown ≡ drop count (redosWaiting (s .redos)) ++ evicted (view s) mem i → ss ≡ set (s .lines .states) i 0
-        → shown (record { answer = 0; left = rest; state = setDown s count grown ss }) (mem .home) (mem .working) log ≡ stepped (evict i) c (view s) mem
+        → Comes (evict i) c (view s) mem s (record { answer = 0; left = rest; state = setDown s count grown ss }) (mem .home) (mem .working) log
     evict-done c count lacks within log rest made h whole grown ss more clean =
         append-done evict-appends c count (record { answer = 0; left = rest; state = setDown s count grown ss }) log (evict-size count lacks within) h
         (appended-of (λ k. redoRecords k (view s)) count (lacking (view s) mem i) lacks made) refl

@@ -26,7 +26,7 @@ use Rattle.model.specs.Steps.{undoRedoRecord, undosLogged, oldestRows}
 use Rattle.line_walks.specs.Walks.{allMarked}
 use Rattle.line_walks.proofs.WordStates.{withStates, logged-lines}
 use Rattle.model.proofs.Lists.{every-right}
-use Rattle.model.proofs.Rows.{none-apply, number-then, number-more, no-records, oldest-positive, Room, oldest-room}
+use Rattle.model.proofs.Rows.{none-apply, number-then, number-more, no-records, oldest-refusals, Room, oldest-room}
 use Rattle.model.proofs.Fit.{Clauses, Fit}
 use Rattle.state.specs.declared.Fields.{Fields}
 use Rattle.state.specs.View.{view}
@@ -114,7 +114,7 @@ pub known : (f : Entry → Record) (places n : ℕ) (at : ℕ → Entry) (m : Ma
     → Known m mem places n (oldest f n at)
 known f places n at m mem k size sound e zero =
     let records : List Record = oldest f n at in
-    let none = none-apply (oldestRows m mem records) (oldest-positive m mem records) (sym e ∙ zero) in
+    let none = none-apply (oldestRows m mem records) (oldest-refusals m mem records) (sym e ∙ zero) in
     let fits = common-fit m mem sound in
     let last = every-right (λ (r : Row). r .applies ≡ false) (noRoom m mem (length records)) (row (isEmpty records) nothing ∷ []) none in
     let some : 1 ≤ length records = some-oldest records (last .0) in

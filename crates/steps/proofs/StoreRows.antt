@@ -12,7 +12,7 @@ use Rattle.model.specs.Machine.{Machine, Memory}
 use Rattle.model.specs.Refusals.{Row, row, idle, held, numberOf, common, unknownThread, unknownWord, notOpen, noRoom}
 use Rattle.model.specs.Step.{store}
 use Rattle.model.specs.Steps.{undoRecords, undoRedoRecord, isSame, storeLogs, storeRecords, storeRows, storeNext, heldByAnother}
-use Rattle.model.proofs.Rows.{None, none-apply, own-positive, number-first, number-then, room}
+use Rattle.model.proofs.Rows.{None, none-apply, own-refusals, number-first, number-then, room}
 use Rattle.model.proofs.Fit.{Fit}
 use Rattle.state.specs.declared.Fields.{Fields}
 use Rattle.state.specs.View.{view}
@@ -47,7 +47,7 @@ module _ (s : Fields) (mem : Memory) (t w v : ℕ) where
     -- else none of them applies, and the others decide
     module _ (none : n ≡ 0) where
       passed : None (placeRows (view s) t w)
-      passed = none-apply (placeRows (view s) t w) (omega arith, (omega arith, tt)) (sym first ∙ none)
+      passed = none-apply (placeRows (view s) t w) (refl, (refl, tt)) (sym first ∙ none)
 
       pub known : Known
       known =
@@ -75,7 +75,7 @@ module _ (s : Fields) (mem : Memory) (t w v : ℕ) where
 
   pub store-appends : numberOf (common (view s) mem) ≡ 0 → numberOf (storeRows (view s) mem t w v) ≡ 0 → StoreAppends
   store-appends zero own =
-      let none = none-apply (storeRows (view s) mem t w v) (own-positive (store t w v) (view s) mem) own in
+      let none = none-apply (storeRows (view s) mem t w v) (own-refusals (store t w v) (view s) mem) own in
       record {
         way = record { first = zero; own = own; work = refl };
         fits = common-fit (view s) mem zero;

@@ -17,16 +17,16 @@ use Rattle.model.specs.Machine.{Memory, wordsOf, withLines, changed, dirtyAs}
 use Rattle.model.specs.Plan.{inHome, writeHome, putsOf, written}
 use Rattle.model.specs.Refusals.{numberOf, common}
 use Rattle.model.specs.Steps.{lineRows, lineWrites, writeBackNext}
-use Rattle.model.specs.Step.{writeBack, stepped}
+use Rattle.model.specs.Step.{writeBack}
 use Rattle.model.proofs.LinesInUse.{first-changed}
 use Rattle.model.proofs.Performing.{puts-home, written-home, cleared}
-use Rattle.model.proofs.Rows.{none-apply, own-positive}
+use Rattle.model.proofs.Rows.{none-apply, own-refusals}
 use Rattle.line_walks.specs.Walks.{lineStores}
 use Rattle.line_walks.proofs.LineStores.{stores-there}
 use Rattle.state.specs.declared.Fields.{Fields}
 use Rattle.state.specs.declared.Made.{Made}
-use Rattle.state.specs.View.{view, shown}
-use Rattle.steps.proofs.Outcome.{IsCut, Way, done-way, cut-way}
+use Rattle.state.specs.View.{view}
+use Rattle.steps.proofs.Outcome.{IsCut, Comes, Way, done-way, cut-way}
 use Rattle.steps.proofs.LineRows.{LineFit, line-fit, line-there}
 
 -- the lines with other dirty flags, and the state with these lines
@@ -58,7 +58,7 @@ flag-lines n ls i d ds whole h e = rw e (ap (firstLines n) (sym flag-put) ∙ fi
 -- What the step hands back once it is not refused.
 module _ (i c : ℕ) (s : Fields) (mem : Memory) (zero : numberOf (common (view s) mem) ≡ 0) (none : numberOf (lineRows (view s) i) ≡ 0) where
   pub write-fit : LineFit (view s) mem i
-  write-fit = line-fit (view s) mem i [] zero (none-apply (lineRows (view s) i) (own-positive (writeBack i) (view s) mem) none)
+  write-fit = line-fit (view s) mem i [] zero (none-apply (lineRows (view s) i) (own-refusals (writeBack i) (view s) mem) none)
 
   abbrev writes : List Store
   writes = lineWrites (mem .working) i
@@ -83,9 +83,9 @@ module _ (i c : ℕ) (s : Fields) (mem : Memory) (zero : numberOf (common (view 
     left-by after = rw (stores, there, made, written-home mem c writes after)
 
     -- done: the supply was enough, and the line's flag was cleared
-    pub write-done : (flags : List Bool) → 8 ≤ c → r .answer ≡ 0 → r .left ≡ c - length (lineStores (mem .working) i) → r .state ≡ flagsReplaced s flags
-        → WholeLines (s .lines) → flags ≡ set (s .lines .dirty) i false → shown r home (mem .working) (mem .log) ≡ stepped (writeBack i) c (view s) mem
-    write-done flags h answer left state whole cleared =
+    pub write-done : {taken : Fields} → (flags : List Bool) → 8 ≤ c → r .answer ≡ 0 → r .left ≡ c - length (lineStores (mem .working) i) → r .state ≡ flagsReplaced s flags
+        → WholeLines (s .lines) → flags ≡ set (s .lines .dirty) i false → Comes (writeBack i) c (view s) mem taken r home (mem .working) (mem .log)
+    write-done {taken} flags h answer left state whole cleared =
         let narrow = write-fit .narrow in
         done-way way c r home (mem .log) (rw (made, length-map, eight) h) answer (left ∙ ap (λ (ss : List Store). c - length ss) there ∙ (rw (made, length-map writes inHome)))
         (ap view state
@@ -93,5 +93,5 @@ module _ (i c : ℕ) (s : Fields) (mem : Memory) (zero : numberOf (common (view 
         (left-by (mem .working))
 
     -- cut: it was not
-    pub write-cut : (after : List ℕ) → c < 8 → IsCut r → after ≡ cleared mem → shown r home after (mem .log) ≡ stepped (writeBack i) c (view s) mem
-    write-cut after h answer clear = cut-way way c r home (mem .log) after (rw (made, length-map, eight) h) answer clear (left-by (cleared mem))
+    pub write-cut : {taken : Fields} → (after : List ℕ) → c < 8 → IsCut r → after ≡ cleared mem → Comes (writeBack i) c (view s) mem taken r home after (mem .log)
+    write-cut {taken} after h answer clear = cut-way way c r home (mem .log) after (rw (made, length-map, eight) h) answer clear (left-by (cleared mem))

@@ -4,6 +4,7 @@ ghost use Rattle.model.specs.Machine.{Memory};
 ghost use Rattle.model.specs.Refusals.{numberOf, stateRows};
 ghost use Rattle.model.specs.Step.{begin, stepped};
 ghost use Rattle.state.specs.View.{view, shown};
+ghost use Rattle.state.specs.HandedBack.{HandedBack};
 use crate::refusals::refuse;
 use crate::refusals::refused;
 use state::BUSY;
@@ -16,6 +17,7 @@ use state::THREAD;
 pub fn begun(mut state: Fields, supply: u64, thread: u64) -> Made
     requires { ⌜ numberOf (stateRows (view state)) ≡ 0 ⌝ }
     ensures { λ (r : Made). ⌜ ((mem : Memory) → shown r (mem .home) (mem .working) (mem .log) ≡ stepped (begin thread) supply (view state) mem) ⌝ }
+    ensures { λ (r : Made). ⌜ HandedBack state r ⌝ }
 {
     let t = (thread % 8) as usize;
     let number = refuse(7 < thread, THREAD, refuse(state.opened[t], BUSY, 0));

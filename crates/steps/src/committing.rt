@@ -11,6 +11,7 @@ ghost use Rattle.model.specs.Refusals.{numberOf, common as commonRows};
 ghost use Rattle.model.specs.Steps.{commitRecords, commitRows};
 ghost use Rattle.model.specs.Step.{commit, stepped};
 ghost use Rattle.state.specs.View.{view, memory, shown};
+ghost use Rattle.state.specs.HandedBack.{HandedBack};
 ghost use Rattle.steps.specs.Committing.{HasEntries, Allowed};
 ghost use Rattle.steps.specs.Steps.{TakenOut, LogOf};
 use crate::refusals::no_room;
@@ -77,8 +78,9 @@ fn carry_out(
 ) -> Made
     requires { ⌜ (thread < 8) × ((state .words ≤ 512) × ((state .undos .len ≤ 16) × (state .tail + count ≤ numbers))) ⌝ }
     ensures { λ (r : Made). ⌜ ((home : List ℕ) → Allowed thread count (view state) (memory home (now (working .entry)) (now (log .entry)))
-        → shown r home (now (working .exit)) (now (log .exit))
-        ≡ stepped (commit thread) supply (view state) (memory home (now (working .entry)) (now (log .entry)))) ⌝ }
+        → (shown r home (now (working .exit)) (now (log .exit))
+        ≡ stepped (commit thread) supply (view state) (memory home (now (working .entry)) (now (log .entry))))
+        × HandedBack state r) ⌝ }
 {
     let undos = state.undos.len;
     let redos = state.redos.len;
@@ -136,6 +138,7 @@ pub fn committed<'a>(
     requires { ⌜ numberOf (commonRows (view state) (memory (now home) (now working) (now log))) ≡ 0 ⌝ }
     ensures { λ (r : Made). ⌜ shown r (now (home .entry)) (now (working .exit)) (now (log .exit))
         ≡ stepped (commit thread) supply (view state) (memory (now (home .entry)) (now (working .entry)) (now (log .entry))) ⌝ }
+    ensures { λ (r : Made). ⌜ HandedBack state r ⌝ }
 {
     let undos = state.undos.len;
     let redos = state.redos.len;

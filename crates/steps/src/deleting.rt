@@ -4,6 +4,7 @@ ghost use Rattle.model.specs.Refusals.{numberOf, common as commonRows};
 ghost use Rattle.model.specs.Step.{deleteOldest, stepped};
 ghost use Rattle.model.specs.Steps.{verdictRows};
 ghost use Rattle.state.specs.View.{view, memory, shown};
+ghost use Rattle.state.specs.HandedBack.{HandedBack};
 use crate::refusals::refused;
 use parts::Verdict;
 use recovery::oldest_verdict;
@@ -39,6 +40,7 @@ pub fn deleted(
     requires { ⌜ numberOf (commonRows (view state) (memory (now home) (now working) (now log))) ≡ 0 ⌝ }
     ensures { λ (r : Made). ⌜ shown r (now (home .entry)) (now (working .exit)) (now (log .exit))
         ≡ stepped deleteOldest supply (view state) (memory (now (home .entry)) (now (working .entry)) (now (log .entry))) ⌝ }
+    ensures { λ (r : Made). ⌜ HandedBack state r ⌝ }
 {
     let dirty = state.lines.dirty;
     let number = refusal(oldest_verdict(state.head, state.tail, state.words, &dirty, log));

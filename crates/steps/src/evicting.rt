@@ -6,6 +6,7 @@ ghost use Rattle.line_walks.specs.Walks.{ulogWords};
 ghost use Rattle.model.specs.Refusals.{numberOf, common as commonRows};
 ghost use Rattle.model.specs.Step.{evict, stepped};
 ghost use Rattle.state.specs.View.{view, memory, shown};
+ghost use Rattle.state.specs.HandedBack.{HandedBack};
 use crate::places::holder_at;
 use crate::places::put_states;
 use crate::places::states_at;
@@ -45,6 +46,7 @@ pub fn evicted(
     requires { ⌜ numberOf (commonRows (view state) (memory (now home) (now working) (now log))) ≡ 0 ⌝ }
     ensures { λ (r : Made). ⌜ shown r (now (home .entry)) (now (working .exit)) (now (log .exit))
         ≡ stepped (evict line) supply (view state) (memory (now (home .entry)) (now (working .entry)) (now (log .entry))) ⌝ }
+    ensures { λ (r : Made). ⌜ HandedBack state r ⌝ }
 {
     let count = lacking(state.redos.len, &state.lines.states, line);
     let room = no_room(state.slots, state.head, state.tail, count as u64);

@@ -10,6 +10,7 @@ ghost use Rattle.model.specs.Refusals.{numberOf, common as commonRows};
 ghost use Rattle.model.specs.Steps.{oldestRows};
 ghost use Rattle.model.specs.Step.{logUndo, logRedo, stepped};
 ghost use Rattle.state.specs.View.{view, memory, shown};
+ghost use Rattle.state.specs.HandedBack.{HandedBack};
 ghost use Rattle.steps.specs.Steps.{LogOf};
 use crate::refusals::no_room;
 use crate::refusals::refused;
@@ -47,6 +48,7 @@ pub fn undo_logged(
     requires { ⌜ numberOf (commonRows (view state) (memory (now home) (now working) (now log))) ≡ 0 ⌝ }
     ensures { λ (r : Made). ⌜ shown r (now (home .entry)) (now (working .exit)) (now (log .exit))
         ≡ stepped logUndo supply (view state) (memory (now (home .entry)) (now (working .entry)) (now (log .entry))) ⌝ }
+    ensures { λ (r : Made). ⌜ HandedBack state r ⌝ }
 {
     let number = refusal(state.undos.len, state.slots, state.head, state.tail);
     if number != 0 {
@@ -93,6 +95,7 @@ pub fn redo_logged(
     requires { ⌜ numberOf (commonRows (view state) (memory (now home) (now working) (now log))) ≡ 0 ⌝ }
     ensures { λ (r : Made). ⌜ shown r (now (home .entry)) (now (working .exit)) (now (log .exit))
         ≡ stepped logRedo supply (view state) (memory (now (home .entry)) (now (working .entry)) (now (log .entry))) ⌝ }
+    ensures { λ (r : Made). ⌜ HandedBack state r ⌝ }
 {
     let number = refusal(state.redos.len, state.slots, state.head, state.tail);
     if number != 0 {

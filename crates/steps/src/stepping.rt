@@ -5,6 +5,7 @@ ghost use Rattle.model.specs.Consistent.{consistent};
 ghost use Rattle.model.specs.Refusals.{numberOf};
 ghost use Rattle.model.specs.Step.{takesState, firstRows, stepped};
 ghost use Rattle.state.specs.View.{view, memory, shown};
+ghost use Rattle.state.specs.HandedBack.{HandedBack, takenFields};
 ghost use Rattle.steps.specs.Steps.{TakenOut};
 use crate::beginning::begun;
 use crate::committing::committed;
@@ -73,6 +74,7 @@ fn made<'a>(
     requires { ⌜ numberOf (firstRows step (view state) (memory (now home) (now working) (now log))) ≡ 0 ⌝ }
     ensures { λ (r : Made). ⌜ shown r (now (home .exit)) (now (working .exit)) (now (log .exit))
         ≡ stepped step supply (view state) (memory (now (home .entry)) (now (working .entry)) (now (log .entry))) ⌝ }
+    ensures { λ (r : Made). ⌜ HandedBack (takenFields step state) r ⌝ }
 {
     match step {
         Step::Begin { thread } => begun(state, supply, thread),
@@ -124,6 +126,7 @@ pub fn make(
 ) -> Made
     ensures { λ (r : Made). ⌜ shown r (now (home .exit)) (now (working .exit)) (now (log .exit))
         ≡ stepped step supply (view state) (memory (now (home .entry)) (now (working .entry)) (now (log .entry))) ⌝ }
+    ensures { λ (r : Made). ⌜ HandedBack (takenFields step state) r ⌝ }
 {
     let opened = state.opened;
     let holders = state.lines.holders;

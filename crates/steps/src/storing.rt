@@ -14,6 +14,7 @@ ghost use Rattle.model.specs.Steps.{storeLogs, storeNext};
 ghost use Rattle.logging.specs.Progressed.{Stored};
 ghost use Rattle.logging.specs.Records.{undoRecordsOf};
 ghost use Rattle.state.specs.View.{view, memory, shown};
+ghost use Rattle.state.specs.HandedBack.{HandedBack};
 ghost use Rattle.steps.specs.Steps.{TakenOut, LogOf};
 use crate::places::push_thread;
 use crate::places::push_value;
@@ -181,6 +182,7 @@ pub fn stored<'a>(
     requires { ⌜ numberOf (commonRows (view state) (memory (now home) (now working) (now log))) ≡ 0 ⌝ }
     ensures { λ (r : Made). ⌜ shown r (now (home .entry)) (now (working .exit)) (now (log .exit))
         ≡ stepped (store thread word value) supply (view state) (memory (now (home .entry)) (now (working .entry)) (now (log .entry))) ⌝ }
+    ensures { λ (r : Made). ⌜ HandedBack state r ⌝ }
 {
     let early = early_refusal(state.words, thread, word);
     if early != 0 {

@@ -9,6 +9,7 @@ ghost use Rattle.model.specs.Lists.{any, upTo};
 ghost use Rattle.model.specs.Refusals.{numberOf, common as commonRows, place, pending};
 ghost use Rattle.model.specs.Step.{writeBack, stepped};
 ghost use Rattle.state.specs.View.{view, memory, shown};
+ghost use Rattle.state.specs.HandedBack.{HandedBack};
 use crate::places::put_flag;
 use crate::refusals::refuse;
 use crate::refusals::refused;
@@ -48,6 +49,7 @@ pub fn written_back(
     requires { ⌜ numberOf (commonRows (view state) (memory (now home) (now working) (now log))) ≡ 0 ⌝ }
     ensures { λ (r : Made). ⌜ shown r (now (home .exit)) (now (working .exit)) (now (log .entry))
         ≡ stepped (writeBack line) supply (view state) (memory (now (home .entry)) (now (working .entry)) (now (log .entry))) ⌝ }
+    ensures { λ (r : Made). ⌜ HandedBack state r ⌝ }
 {
     let number = line_refusal(state.words, states, line, 0);
     if number != 0 {

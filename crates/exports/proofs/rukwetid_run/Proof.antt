@@ -1,6 +1,7 @@
 -- `rukwetid_run` meets its contract: what `run` ensures, with the state left out.
 use borrow.Author.Needs.{needs}
 use mathlib.Core.Path.{ap}
+use Rattle.state.proofs.HandedBack.{lost-view}
 use Rattle.exports.specs.Exported.{exportOf}
 use Rattle.exports.proofs.rukwetid_run.Statement.{statement}
 use Rattle.exports.proofs.rukwetid_run.Tie as tie
@@ -29,7 +30,8 @@ same-length-5 c = search needs
 returns : tie.Need-returns
 returns c =
     let d = c .before .before .before .before .before .before .before .before .before .before in
-    ap exportOf (rw (d .before .before .before .before .before .before .lost .ensures) at (d .run .ensures))
+    let start = d .before .before .before .before .before .before .lost in
+    ap exportOf (rw (start .ensures, lost-view) at (d .run .ensures .0))
 
 pub rukwetid-run-spec : {M : Type 1} → statement M
 rukwetid-run-spec =

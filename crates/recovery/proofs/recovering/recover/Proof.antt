@@ -30,11 +30,7 @@ returns c =
     let a = c .before .before .before .before .before .before .before .before .before .args in
     recover-unread (memory (a .home .now) (a .working .now) (a .log .now)) (a .supply) _
     (c .before .before .unreadable .ensures)
-    (c .before .if1 .taken)
-    _
-    _
-    _
-    (c .refused .ensures)
+    (c .before .if1 .taken) _ (c .refused .ensures)
 
 -- the buffers at the start, where the log can be read
 abbrev before : tie.Else1 → Memory
@@ -80,7 +76,7 @@ returns-2 c =
     let after = c .before .before .before .before in
     let read = after .before .before .before .before .before in
     let a = read .before .before .before .before .before .before .before .before .args in
-    recover-damaged (before read) (a .supply) (zero read) (after .replay .result) (after .replay .ensures .0) _ _ _ _ _ _
+    recover-damaged (before read) (a .supply) (zero read) (after .replay .result) (after .replay .ensures .0) _ _ _ _
     (after .replay .ensures .1)
     (c .before .if2 .taken)
     (c .refused2 .ensures)
@@ -108,7 +104,7 @@ returns-3 c =
     let after = headed .before .before .before .before .before in
     let read = after .before .before .before .before .before in
     let a = read .before .before .before .before .before .before .before .before .args in
-    recover-cut (before read) (a .supply) (zero read) (after .replay .result) (after .replay .ensures .0) _ _ _ _ _ _
+    recover-cut (before read) (a .supply) (zero read) (after .replay .result) (after .replay .ensures .0) _ _ _ _
     (after .replay .ensures .1)
     (headed .before .before .if2 .left)
     (headed .set-head .ensures .1)
@@ -123,10 +119,7 @@ copy-requires c κs =
     fits-unread (before read) (zero read) .working ∙ sym (after .replay .kept .0)
 
 fresh-state-requires : tie.Need-fresh-state-requires
-fresh-state-requires c κs =
-    let after = c .before .before .before .before .before .before .before .before .before .before .before .before .before .before in
-    let read = after .before .before .before .before .before in
-    fits-unread (before read) (zero read) .width
+fresh-state-requires c κs = search needs
 
 same-length-10 : tie.Need-same-length-10
 same-length-10 c = search needs
@@ -144,7 +137,8 @@ returns-4 c =
     let read = after .before .before .before .before .before in
     let a = read .before .before .before .before .before .before .before .before .args in
     let counted = after .before .before .before .slots in
-    recover-done (before read) (a .supply) (zero read) (after .replay .result) (after .replay .ensures .0) _ _ _ _ _ _
+    recover-done (before read) (a .supply) (zero read) (after .replay .result) (after .replay .ensures .0)
+    (record { answer = 0; left = headed .set-head .result; state = c .fresh-state .result }) _ _ _
     (after .replay .ensures .1)
     (headed .before .before .if2 .left)
     (headed .set-head .ensures .1)

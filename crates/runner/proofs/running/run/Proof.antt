@@ -69,15 +69,17 @@ same-length-2 c = search needs
 returns : tie.Need-returns Inv-loop μ-loop
 returns c =
     let a = c .before .before .before .before .before .before .before .before .before .before .before .before .before .before .args in
-    let test = c .before .is-runnable in
-    run-refused (script (a .kinds .now) (a .threads .now) (a .places .now) (a .values .now) (a .supplies .now))
-    (view (a .state))
-    (memory (a .home .now) (a .working .now) (a .log .now))
-    (a .answers .now)
-    (a .stores .now)
-    (test .result)
-    (test .ensures)
-    (c .if1 .taken)
+    let test = c .before .is-runnable in (
+      run-refused (script (a .kinds .now) (a .threads .now) (a .places .now) (a .values .now) (a .supplies .now))
+          (view (a .state))
+          (memory (a .home .now) (a .working .now) (a .log .now))
+          (a .answers .now)
+          (a .stores .now)
+          (test .result)
+          (test .ensures)
+          (c .if1 .taken),
+      λ some. refl,
+    )
 
 loop-holds : tie.Need-loop-holds Inv-loop μ-loop
 loop-holds c =
@@ -133,7 +135,7 @@ sub-stores c =
     let r = d .step in
     left-of (shown (r .result) (r .last .1 .1 .0) (r .last .1 .1 .1 .0) (r .last .1 .1 .1 .1 .0)) _ _ _
     (memory (l .home) (l .working) (l .log))
-    (r .ensures)
+    (r .ensures .0)
 
 mul-stores : tie.Need-mul-stores Inv-loop μ-loop
 mul-stores c =
@@ -172,7 +174,7 @@ loop-again c =
     let f : ℕ → Timed = timedAt (script (a .kinds .now) (a .threads .now) (a .places .now) (a .values .now) (a .supplies .now)) in
     let out : Outcome = shown (r .result) (r .last .1 .1 .0) (r .last .1 .1 .1 .0) (r .last .1 .1 .1 .1 .0) in
     let made : out ≡ stepped (f (l .i) .step) (f (l .i) .supply) (view (l .state)) (memory (l .home) (l .working) (l .log)) =
-    rw (← o .step-at .ensures) (r .ensures) in (
+    rw (← o .step-at .ensures) (r .ensures .0) in (
       more h,
       u .1,
       r .kept .1 .1 .0 ∙ u .2,
@@ -206,14 +208,16 @@ same-length-7 c = c .before .loop .inv .6
 returns-2 : tie.Need-returns-2 Inv-loop μ-loop
 returns-2 c =
     let l = c .before .loop in
-    let n = l .inv .8 in
-    run-made _ _ _ _ _
-    (reported (record { answer = 0; state = l .state }) (l .home) (l .working) (l .log) (l .answers) (l .stores))
-    (l .inv .7)
-    (upto-all _ _ _ _ (l .i) _ (view (l .state)) (memory (l .home) (l .working) (l .log)) (l .answers) (l .stores) (l .inv .9)
-    (same (l .inv .0) (c .loop-test .left))
-    (n .answers)
-    (n .stores))
+    let n = l .inv .8 in (
+      run-made _ _ _ _ _
+          (reported (record { answer = 0; state = l .state }) (l .home) (l .working) (l .log) (l .answers) (l .stores))
+          (l .inv .7)
+          (upto-all _ _ _ _ (l .i) _ (view (l .state)) (memory (l .home) (l .working) (l .log)) (l .answers) (l .stores) (l .inv .9)
+          (same (l .inv .0) (c .loop-test .left))
+          (n .answers)
+          (n .stores)),
+      λ some. absurd (some refl),
+    )
 
 pub run-spec : {M : Type 1} → statement M
 run-spec =

@@ -1,5 +1,4 @@
--- `lost` meets its contract: no line is in use, and no entry waits.
-use Rattle.parts.specs.Listed.{listed}
+-- `lost` meets its contract: both buffers are empty to the last place.
 use borrow.Author.Needs.{needs}
 use Rattle.state.proofs.ways_out.lost.Statement.{statement}
 use Rattle.state.proofs.ways_out.lost.Tie as tie
@@ -11,8 +10,7 @@ empty-requires-2 : tie.Need-empty-requires-2
 empty-requires-2 c κs = search needs
 
 returns : tie.Need-returns
-unfolding listed
-returns c = simp (c .before .empty .ensures, c .empty2 .ensures)
+returns c = rw (c .before .empty .ensures, c .empty2 .ensures)
 
 pub lost-spec : {M : Type 1} → statement M
 lost-spec = tie.close (tie.spec empty-requires empty-requires-2 returns)

@@ -16,8 +16,10 @@ use Rattle.model.specs.Plan.{putsOf, homePart, logPart, written}
 use Rattle.model.specs.Refusals.{numberOf, stateRows}
 use Rattle.model.specs.Steps.{beginRows, beginNext}
 use Rattle.model.specs.Step.{begin, stepped}
-use Rattle.model.proofs.Outcomes.{refused-own, passed-own, way-done}
-use Rattle.state.specs.View.{view}
+use Rattle.model.proofs.Outcomes.{passed-own, way-done}
+use Rattle.state.specs.View.{view, memory}
+use Rattle.state.proofs.HandedBack.{done-back}
+use Rattle.steps.proofs.Outcome.{Comes, refused-way}
 use Rattle.steps.proofs.beginning.begun.Statement.{statement}
 use Rattle.steps.proofs.beginning.begun.Tie as tie
 
@@ -64,20 +66,25 @@ refused-requires : tie.Need-refused-requires
 refused-requires c κs = search needs
 
 returns : tie.Need-returns
-returns c mem =
+returns c =
     let d = c .before .before in
     let a = start d .args in
-    rw (c .refused .ensures)
-    (refused-own (begin (a .thread)) (a .supply) (view (a .t1)) mem (start d .pre) (d .refuse2 .result) (computed d) (c .before .if1 .taken) refl)
+    let way : (mem : Memory) → Comes (begin (a .thread)) (a .supply) (view (a .t1)) mem (a .t1) (c .refused .result) (mem .home) (mem .working) (mem .log) =
+    λ mem.
+    refused-way (begin (a .thread)) (a .supply) (a .t1) mem (start d .pre) (d .refuse2 .result) (computed d) (c .before .if1 .taken) refl
+    (c .refused .result) (c .refused .ensures) in
+    (λ mem. way mem .0, way (memory [] [] []) .1)
 
 element-write-state : tie.Need-element-write-state
 element-write-state c = search needs
 
 returns-2 : tie.Need-returns-2
-returns-2 c mem =
+returns-2 c =
     let d = c .before in
-    let a = start d .args in
-    begin-done (view (a .t1)) (a .thread) (d .refuse2 .result) (a .supply) mem (start d .pre) (computed d) (c .if1 .left)
+    let a = start d .args in (
+      λ mem. begin-done (view (a .t1)) (a .thread) (d .refuse2 .result) (a .supply) mem (start d .pre) (computed d) (c .if1 .left),
+      done-back (a .t1) _ refl,
+    )
 
 pub begun-spec : {M : Type 1} → statement M
 begun-spec =

@@ -9,9 +9,9 @@ use lib.ListN.{length, getD}
 use Rattle.model.specs.Refusals.{numberOf}
 use Rattle.model.specs.Steps.{commitRecords, commitRows}
 use Rattle.model.specs.Step.{commit}
-use Rattle.model.proofs.Outcomes.{refused-own}
 use Rattle.state.specs.View.{view, memory}
 use Rattle.steps.specs.Committing.{Allowed}
+use Rattle.steps.proofs.Outcome.{refused-way}
 use Rattle.steps.proofs.Commits.{Sizes, sizes, known-thread, commit-appends}
 use Rattle.steps.proofs.committing.committed.Statement.{statement}
 use Rattle.steps.proofs.committing.committed.Tie as tie
@@ -67,9 +67,9 @@ returns c =
     let refusal = c .before .before in
     let start = refusal .before .before .before .before .before .before in
     let a = start .args in
-    rw (c .refused .ensures)
-    (refused-own (commit (a .thread)) (a .supply) (view (a .state)) (memory (a .home .now) (a .working .now) (a .log .now)) (start .pre .1)
-    (refusal .commit-refusal .result) (later refusal) (c .before .if1 .taken) refl)
+    refused-way (commit (a .thread)) (a .supply) (a .state) (memory (a .home .now) (a .working .now) (a .log .now)) (start .pre .1)
+    (refusal .commit-refusal .result) (later refusal) (c .before .if1 .taken) refl
+    (c .refused .result) (c .refused .ensures)
 
 -- no row applies
 allowed : (c : tie.Else1)

@@ -7,10 +7,9 @@ use Rattle.model.specs.Machine.{Memory}
 use Rattle.model.specs.Refusals.{numberOf}
 use Rattle.model.specs.Steps.{deleteRows, verdictRows}
 use Rattle.model.specs.Step.{deleteOldest}
-use Rattle.model.proofs.Outcomes.{refused-own}
 use Rattle.state.specs.declared.Fields.{Fields}
 use Rattle.state.specs.View.{view, memory}
-use Rattle.steps.proofs.Outcome.{common-fit}
+use Rattle.steps.proofs.Outcome.{common-fit, refused-way}
 use Rattle.steps.proofs.DeleteStep.{headMoved, delete-cut, delete-done}
 use Rattle.steps.proofs.deleting.deleted.Statement.{statement}
 use Rattle.steps.proofs.deleting.deleted.Tie as tie
@@ -53,8 +52,8 @@ returns : tie.Need-returns
 returns c =
     let d = c .before .before in
     let s = start d in
-    rw (c .refused .ensures)
-    (refused-own deleteOldest (s .args .supply) (view (taken s)) (lent s) (s .pre) (d .refusal .result) (number d) (c .before .if1 .taken) refl)
+    refused-way deleteOldest (s .args .supply) (taken s) (lent s) (s .pre) (d .refusal .result) (number d) (c .before .if1 .taken) refl
+    (c .refused .result) (c .refused .ensures)
 
 add-head : tie.Need-add-head
 add-head c =

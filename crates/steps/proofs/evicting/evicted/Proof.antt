@@ -10,11 +10,10 @@ use Rattle.model.specs.Machine.{Memory}
 use Rattle.model.specs.Refusals.{numberOf}
 use Rattle.model.specs.Steps.{redoRecords, lacking, evictRows}
 use Rattle.model.specs.Step.{evict}
-use Rattle.model.proofs.Outcomes.{refused-own}
 use Rattle.model.proofs.Fit.{Fit}
 use Rattle.logging.proofs.Guards.{redos-appended}
 use Rattle.state.specs.View.{view, memory}
-use Rattle.steps.proofs.Outcome.{common-fit}
+use Rattle.steps.proofs.Outcome.{common-fit, refused-way}
 use Rattle.steps.proofs.Appending.{appended-of, append-cut}
 use Rattle.steps.proofs.LineRows.{LineFit}
 use Rattle.steps.proofs.LoggingOldest.{WholeRedos}
@@ -105,9 +104,9 @@ returns : tie.Need-returns
 returns c =
     let found = c .before .before in
     let s = start (counted found) in
-    rw (c .refused .ensures)
-    (refused-own (evict (s .args .line)) (s .args .supply) (view (s .args .t1)) (lent s) (s .pre) (found .line-refusal .result) (number found)
-    (c .before .if1 .taken) refl)
+    refused-way (evict (s .args .line)) (s .args .supply) (s .args .t1) (lent s) (s .pre) (found .line-refusal .result) (number found)
+    (c .before .if1 .taken) refl
+    (c .refused .result) (c .refused .ensures)
 
 append-redos-requires : tie.Need-append-redos-requires
 append-redos-requires c κs = search needs

@@ -13,10 +13,10 @@ use Rattle.model.specs.Machine.{Memory}
 use Rattle.model.specs.Refusals.{numberOf}
 use Rattle.model.specs.Steps.{redoRecord, redosLogged, oldestRows}
 use Rattle.model.specs.Step.{logRedo}
-use Rattle.model.proofs.Outcomes.{refused-own}
 use Rattle.logging.proofs.Guards.{redos-appended}
 use Rattle.state.specs.declared.Fields.{Fields}
 use Rattle.state.specs.View.{view, memory}
+use Rattle.steps.proofs.Outcome.{refused-way}
 use Rattle.steps.proofs.Appending.{AppendWay, append-done, append-cut}
 use Rattle.steps.proofs.LoggingOldest.{WholeRedos, oldest, count-oldest, withLogged, redos-rest, in-log, Known, known}
 use Rattle.steps.proofs.log_oldest.redo_logged.Statement.{statement}
@@ -78,8 +78,8 @@ returns : tie.Need-returns
 returns c =
     let d = c .before .before in
     let s = start d in
-    rw (c .refused .ensures)
-    (refused-own logRedo (s .args .supply) (view (s .args .t1)) (lent s) (s .pre) (d .refusal .result) (number d) (c .before .if1 .taken) refl)
+    refused-way logRedo (s .args .supply) (s .args .t1) (lent s) (s .pre) (d .refusal .result) (number d) (c .before .if1 .taken) refl
+    (c .refused .result) (c .refused .ensures)
 
 append-redos-requires : tie.Need-append-redos-requires
 append-redos-requires c κs = search needs

@@ -14,10 +14,10 @@ use Rattle.model.specs.Machine.{Memory}
 use Rattle.model.specs.Refusals.{numberOf}
 use Rattle.model.specs.Steps.{undoRedoRecord, undosLogged, oldestRows}
 use Rattle.model.specs.Step.{logUndo}
-use Rattle.model.proofs.Outcomes.{refused-own}
 use Rattle.logging.proofs.Guards.{undos-appended}
 use Rattle.state.specs.declared.Fields.{Fields}
 use Rattle.state.specs.View.{view, memory}
+use Rattle.steps.proofs.Outcome.{refused-way}
 use Rattle.steps.proofs.Appending.{AppendWay, append-done, append-cut}
 use Rattle.steps.proofs.LoggingOldest.{WholeUndos, oldest, count-oldest, undosGone, undos-gone, undos-rest, in-log, Known, known}
 use Rattle.steps.proofs.log_oldest.undo_logged.Statement.{statement}
@@ -82,8 +82,8 @@ returns : tie.Need-returns
 returns c =
     let d = c .before .before in
     let s = start d in
-    rw (c .refused .ensures)
-    (refused-own logUndo (s .args .supply) (view (s .args .t1)) (lent s) (s .pre) (d .refusal .result) (number d) (c .before .if1 .taken) refl)
+    refused-way logUndo (s .args .supply) (s .args .t1) (lent s) (s .pre) (d .refusal .result) (number d) (c .before .if1 .taken) refl
+    (c .refused .result) (c .refused .ensures)
 
 append-undos-requires : tie.Need-append-undos-requires
 append-undos-requires c κs = search needs

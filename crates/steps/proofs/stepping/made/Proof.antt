@@ -91,7 +91,7 @@ recover-requires : tie.Need-recover-requires
 recover-requires c κs = search needs
 
 returns : tie.Need-returns
-returns c = rw (c .before .before .step .given .1) (c .begun .ensures _)
+returns c = rw (c .before .before .step .given .1) (c .begun .ensures .0 _, c .begun .ensures .1)
 
 same-length : tie.Need-same-length
 same-length c = search needs
@@ -204,7 +204,7 @@ same-length-24 c = search needs
 returns-9 : tie.Need-returns-9
 returns-9 c =
     let d = c .before .before .before .before .before .before in
-    rw (d .before .before .before .before .enum-told4 .given .1, recover-any) (d .recover .ensures)
+    rw (d .before .before .before .before .enum-told4 .given .1, recover-any) (d .recover .ensures .0, d .recover .ensures .1 .0)
 
 pub made-spec : {M : Type 1} → statement M
 made-spec =

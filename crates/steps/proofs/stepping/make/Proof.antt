@@ -8,7 +8,7 @@ use Rattle.model.specs.Consistent.{consistent}
 use Rattle.model.specs.Refusals.{numberOf}
 use Rattle.state.specs.View.{view, memory}
 use Rattle.model.specs.Step.{Step, takesState, firstRows}
-use Rattle.model.proofs.Outcomes.{refused-first}
+use Rattle.steps.proofs.Outcome.{first-way}
 use Rattle.steps.proofs.Sound.{sound-here}
 use Rattle.steps.proofs.stepping.make.Statement.{statement}
 use Rattle.steps.proofs.stepping.make.Tie as tie
@@ -59,8 +59,8 @@ returns : tie.Need-returns
 returns c =
     let d = c .before .before in
     let a = begun d .args in
-    rw (c .refused .ensures)
-    (refused-first (a .step) (a .supply) (view (a .state)) (lent d) (d .unfit .result) (number d) (c .before .if2 .taken))
+    first-way (a .step) (a .supply) (a .state) (lent d) (d .unfit .result) (number d) (c .before .if2 .taken) (c .refused .result)
+    (c .refused .ensures)
 
 made-requires : tie.Need-made-requires
 made-requires c κs =

@@ -13,11 +13,11 @@ use Rattle.model.specs.Machine.{Machine, Memory}
 use Rattle.model.specs.Refusals.{numberOf}
 use Rattle.model.specs.Steps.{storeLogs, storeRecords, storeRows, undoRecords}
 use Rattle.model.specs.Step.{store}
-use Rattle.model.proofs.Outcomes.{refused-own}
 use Rattle.logging.proofs.Appending.{Appended, appended-none, appended-length}
 use Rattle.logging.proofs.Guards.{undos-appended}
 use Rattle.state.specs.View.{view, memory}
 use Rattle.steps.specs.Steps.{TakenOut}
+use Rattle.steps.proofs.Outcome.{refused-way}
 use Rattle.steps.proofs.Filing.{logs-most, undos-length, redos-length}
 use Rattle.steps.proofs.Appending.{appended-of, append-done, append-cut}
 use Rattle.steps.proofs.StoreRows.{placeRows, place-refused, Known, known, late-number, StoreAppends, store-appends, store-size}
@@ -48,10 +48,10 @@ returns c =
     let d = c .before .before in
     let s = begin d in
     let a = s .args in
-    rw (c .refused .ensures)
-    (refused-own (store (a .thread) (a .word) (a .value)) (a .supply) (view (a .state)) (lent s) (s .pre .1) (d .early-refusal .result)
+    refused-way (store (a .thread) (a .word) (a .value)) (a .supply) (a .state) (lent s) (s .pre .1) (d .early-refusal .result)
     (place-refused (a .state) (lent s) (a .thread) (a .word) (a .value) (s .pre .1) (d .early-refusal .result) (early-here d) (c .before .if1 .taken))
-    (c .before .if1 .taken) refl)
+    (c .before .if1 .taken) refl
+    (c .refused .result) (c .refused .ensures)
 
 -- none of them refuses the store
 module _ (c : tie.Else1) where
@@ -164,9 +164,9 @@ returns-2 : tie.Need-returns-2
 returns-2 c =
     let late = c .before .before in
     let a = begun late .args in
-    rw (c .refused2 .ensures)
-    (refused-own (store (a .thread) (a .word) (a .value)) (a .supply) (view (a .state)) (lent (begun late)) (begun late .pre .1)
-    (late .late-refusal .result) (late-here late) (c .before .if2 .taken) refl)
+    refused-way (store (a .thread) (a .word) (a .value)) (a .supply) (a .state) (lent (begun late)) (begun late .pre .1)
+    (late .late-refusal .result) (late-here late) (c .before .if2 .taken) refl
+    (c .refused2 .result) (c .refused2 .ensures)
 
 append-oldest-requires : tie.Need-append-oldest-requires
 append-oldest-requires c κs = search needs

@@ -8,9 +8,8 @@ use Rattle.model.specs.Machine.{Memory}
 use Rattle.model.specs.Refusals.{numberOf}
 use Rattle.model.specs.Steps.{lineRows}
 use Rattle.model.specs.Step.{writeBack}
-use Rattle.model.proofs.Outcomes.{refused-own}
 use Rattle.state.specs.View.{view, memory}
-use Rattle.steps.proofs.Outcome.{common-narrow}
+use Rattle.steps.proofs.Outcome.{common-narrow, refused-way}
 use Rattle.steps.proofs.LineRows.{lineNumber, line-number}
 use Rattle.steps.proofs.WritingBack.{write-fit, write-cut, write-done}
 use borrow.Author.Needs.{needs}
@@ -52,9 +51,9 @@ returns : tie.Need-returns
 returns c =
     let refused = c .before .before in
     let a = start refused .args in
-    rw (c .refused .ensures)
-    (refused-own (writeBack (a .line)) (a .supply) (view (a .state)) (lent (start refused)) (start refused .pre .1) (refused .line-refusal .result)
-    (number refused) (c .before .if1 .taken) refl)
+    refused-way (writeBack (a .line)) (a .supply) (a .state) (lent (start refused)) (start refused .pre .1) (refused .line-refusal .result)
+    (number refused) (c .before .if1 .taken) refl
+    (c .refused .result) (c .refused .ensures)
 
 store-line-requires : tie.Need-store-line-requires
 store-line-requires c κs = search needs

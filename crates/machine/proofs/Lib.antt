@@ -1,0 +1,2 @@
+-- Laws about what the methods hand back.
+pub mod Around

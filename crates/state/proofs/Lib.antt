@@ -1,0 +1,2 @@
+-- Laws about the state that a step hands back.
+pub mod HandedBack

@@ -1,0 +1,32 @@
+-- What a user can rely on, a theorem each. A statement stands in specs/ of the crate that its `use` names; the proof is cited.
+use mathlib.Core.Path.{_≡_}
+use mathlib.Core.Bool.{true}
+use Rattle.model.specs.Lists.{all}
+use Rattle.model.specs.Scenarios.{scenarios, passes}
+use Rattle.model.specs.Run.{WholeListClaim, RecoverableClaim}
+use Rattle.model.proofs.Scenarios as table
+use Rattle.model.proofs.WholeList as list
+use Rattle.runner.specs.Claim.{CodeClaim, HandedBackClaim}
+use Rattle.runner.proofs.Claim as code
+
+-- Of every list of steps that begins with a recovery, refused and cut steps included, a cut after any single store, also
+-- inside a recovery: after every recovery answered done, home equals the account book.
+pub whole-list : WholeListClaim
+whole-list = list.whole-list
+
+-- After any such list a recovery is done or cut and never refused, with a supply of L+1 it is done, and the state handed
+-- back last is lost or consistent.
+pub always-recoverable : RecoverableClaim
+always-recoverable = list.always-recoverable
+
+-- The same as the first of the lists that the code runs, by the answers that it wrote: at each recovery in them.
+pub each-recovery : CodeClaim
+each-recovery = code.code-claim
+
+-- And of the home words that the code hands back, where the last step of its list is such a recovery.
+pub handed-back : HandedBackClaim
+handed-back = code.handed-back
+
+-- P1 to P11 of document 01 come out as it says.
+pub worked-scenarios : all passes scenarios ≡ true
+worked-scenarios = table.scenarios-pass

@@ -1,0 +1,1 @@
+// What a user can rely on: proofs/Theorems.antt. There is no code here.

@@ -72,8 +72,9 @@ module _ (wanted next words : ℕ) (holders states : List ℕ) (thread word : �
   unfolding waitsFor
   walked-unused h = fails (rw (le-ltb word words h))
 
-  module _ (st : ℕ) (multiple : words % 8 ≡ 0) (used : word < words) (read : st ≡ stateAt (getD states (word / 8) 0) (word % 8)) where
-    flag : (t : Bool) → (ltb thread 8 && (eqb thread (getD holders (word / 8) 0) && eqb st wanted)) ≡ t
+  module _ (found : Bool) (multiple : words % 8 ≡ 0) (used : word < words)
+      (read : found ≡ eqb (stateAt (getD states (word / 8) 0) (word % 8)) wanted) where
+    flag : (t : Bool) → (ltb thread 8 && (eqb thread (getD holders (word / 8) 0) && found)) ≡ t
         → waitsFor wanted words (linesLent (words / 8) holders states) (bareEntry thread word) ≡ t
     unfolding waitsFor
     flag t test =
@@ -82,12 +83,12 @@ module _ (wanted next words : ℕ) (holders states : List ℕ) (thread word : �
         test
 
     -- an entry that does not wait
-    pub walked-not : (ltb thread 8 && (eqb thread (getD holders (word / 8) 0) && eqb st wanted)) ≡ false
+    pub walked-not : (ltb thread 8 && (eqb thread (getD holders (word / 8) 0) && found)) ≡ false
         → Walked wanted next words holders states (bareEntry thread word ∷ []) false states
     walked-not test = fails (flag false test)
 
     -- an entry that waits: its word's state is replaced
-    pub walked-one : (ltb thread 8 && (eqb thread (getD holders (word / 8) 0) && eqb st wanted)) ≡ true → words ≤ 512 → length states ≡ 64
+    pub walked-one : (ltb thread 8 && (eqb thread (getD holders (word / 8) 0) && found)) ≡ true → words ≤ 512 → length states ≡ 64
         → (new : ℕ) → new ≡ withState (getD states (word / 8) 0) (word % 8) next
         → Walked wanted next words holders states (bareEntry thread word ∷ []) true (set states (word / 8) new)
     unfolding eachWaits allMarked

@@ -14,6 +14,8 @@ use Rattle.parts.specs.States.{Clean, Dirty, URLog, ULog}
 use Rattle.model.specs.Lists.{all}
 use Rattle.model.specs.Machine.{Machine, stateIn, holderIn, marked}
 use Rattle.model.specs.Consistent.{isWidth}
+use Rattle.consistency.specs.declared.buffers.Buffer.{Buffer}
+use Rattle.consistency.specs.declared.buffers.Buffer.the-variants.{UndoRedo, Redo}
 use Rattle.consistency.specs.StateOf.{linesLent}
 
 -- the numbers are within their limits, head and tail in order
@@ -32,6 +34,16 @@ lineSound opened line =
 -- bit t of a number is set where thread t has an open transaction
 abbrev pub OpenBits : List Bool → ℕ → Type 0
 OpenBits opened bits = (t : ℕ) → t < 8 → eqb (bits / 2 ^ t % 2) 1 ≡ getD opened t false
+
+-- undo+redo entries wait for Dirty words, redo entries for Clean ones
+abbrev pub awaited : Buffer → ℕ
+awaited UndoRedo = Dirty
+awaited Redo = Clean
+
+-- the state that marks a word once its entry was looked at
+abbrev pub markOf : Buffer → ℕ
+markOf UndoRedo = URLog
+markOf Redo = ULog
 
 -- an entry's word is in the wanted state, and its thread holds the word's line
 unfoldable pub waitsFor : ℕ → ℕ → List Line → Entry → Bool

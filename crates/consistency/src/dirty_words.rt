@@ -1,4 +1,4 @@
-// Whether a word is Dirty.
+// Whether no word of the lines is Dirty. A line is tested by masks, its eight words at once.
 ghost use mathlib.Core.Path.{_≡_};
 ghost use mathlib.Core.List.{List};
 ghost use Prim.Native.Nat.{ℕ, _≤_};

@@ -7,6 +7,7 @@ use crate::holding::lines_sound;
 use crate::limits::within_limits;
 use crate::waiting_entries::all_wait;
 
+mod buffers;
 mod dirty_words;
 mod holding;
 mod limits;

@@ -2,25 +2,26 @@
 ghost use mathlib.Core.Path.{_≡_};
 ghost use mathlib.Core.Bool.{true, _&&_};
 ghost use mathlib.Core.List.{[], _∷_};
-ghost use Prim.Native.Nat.{_/_, _%_, _≤_, _<_};
+ghost use Prim.Native.Nat.{_/_, _%_, _≤_};
 ghost use lib.ListN.{length};
 ghost use Rattle.parts.specs.States.{URLog};
 ghost use Rattle.consistency.specs.StateOf.{bareEntry, linesLent, entriesLent};
-ghost use Rattle.consistency.specs.Linear.{allMarked, undosWait, redosWait, Walked};
+ghost use Rattle.consistency.specs.Linear.{awaited, markOf, allMarked, undosWait, redosWait, Walked};
+use crate::buffers::Buffer;
 use crate::dirty_words::all_settled;
 
-// One entry waits for its word. If it does, the word gets the state `next`.
+// One entry of the buffer waits for its word. If it does, the word is marked.
 fn waits(
     words: u16,
     holders: &[u8; 64],
     states: &mut [u16; 64],
     thread: u8,
     word: u16,
-    wanted: u64,
-    next: u64,
+    buffer: Buffer,
 ) -> bool
-    requires { ⌜ (words ≤ 512) × ((words % 8 ≡ 0) × ((length (now states) ≡ 64) × (next < 4))) ⌝ }
-    ensures { λ r. ⌜ Walked wanted next words (now (holders .entry)) (now (states .entry)) (bareEntry thread word ∷ []) r (now (states .exit)) ⌝ }
+    requires { ⌜ (words ≤ 512) × ((words % 8 ≡ 0) × (length (now states) ≡ 64)) ⌝ }
+    ensures { λ r. ⌜ Walked (awaited buffer) (markOf buffer) words (now (holders .entry)) (now (states .entry))
+        (bareEntry thread word ∷ []) r (now (states .exit)) ⌝ }
 {
     if words <= word {
         return false;
@@ -28,11 +29,11 @@ fn waits(
     let at = (word / 8) as usize;
     let place = (word % 8) as u64;
     let line = states[at];
-    let found = parts::state_at(line, place) == wanted;
+    let found = buffer.waits_for(parts::state_at(line, place));
     if !((thread < 8) & ((thread == holders[at]) & found)) {
         return false;
     }
-    states[at] = parts::with_state(line, place, next);
+    states[at] = parts::with_state(line, place, buffer.mark());
     true
 }
 
@@ -44,19 +45,18 @@ fn each_waits<'a>(
     count: usize,
     threads: &'a [u8],
     targets: &'a [u16],
-    wanted: u64,
-    next: u64,
+    buffer: Buffer,
 ) -> bool
     requires { ⌜ (words ≤ 512) × ((words % 8 ≡ 0) × ((length (now states) ≡ 64)
-        × ((count ≤ length (now threads)) × ((count ≤ length (now targets)) × (next < 4))))) ⌝ }
-    ensures { λ r. ⌜ Walked wanted next words (now (holders .entry)) (now (states .entry))
+        × ((count ≤ length (now threads)) × (count ≤ length (now targets))))) ⌝ }
+    ensures { λ r. ⌜ Walked (awaited buffer) (markOf buffer) words (now (holders .entry)) (now (states .entry))
         (entriesLent count (now (threads .entry)) (now (targets .entry))) r (now (states .exit)) ⌝ }
 {
     let mut i = 0;
     while i < count {
         let thread = threads[i];
         let word = targets[i];
-        if !waits(words, holders, states, thread, word, wanted, next) {
+        if !waits(words, holders, states, thread, word, buffer) {
             return false;
         }
         i += 1;
@@ -81,7 +81,15 @@ fn undos_wait<'a>(
         ≡ allMarked URLog (linesLent (words / 8) (now (holders .entry)) (now (states .entry)))
         (entriesLent count (now (threads .entry)) (now (targets .entry)))) ⌝ }
 {
-    let each = each_waits(words, holders, states, count, threads, targets, 1, 2);
+    let each = each_waits(
+        words,
+        holders,
+        states,
+        count,
+        threads,
+        targets,
+        Buffer::UndoRedo,
+    );
     each & all_settled((words / 8) as usize, states)
 }
 
@@ -98,7 +106,15 @@ fn redos_wait<'a>(
     ensures { λ r. ⌜ r ≡ redosWait words (linesLent (words / 8) (now (holders .entry)) (now (states .entry)))
         (entriesLent count (now (threads .entry)) (now (targets .entry))) ⌝ }
 {
-    each_waits(words, holders, states, count, threads, targets, 0, 3)
+    each_waits(
+        words,
+        holders,
+        states,
+        count,
+        threads,
+        targets,
+        Buffer::Redo,
+    )
 }
 
 // Both. The redo entries are looked at in the states that the undo+redo entries have left: these mark no Clean word.

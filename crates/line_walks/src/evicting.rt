@@ -10,6 +10,7 @@ ghost use Rattle.parts.specs.Arrays.{placed};
 ghost use Rattle.parts.specs.States.{stateAt, ULog};
 ghost use Rattle.line_walks.specs.Walks.{ulogWords, refilled, wordsIn, valuesIn};
 use parts::RedoBuffer;
+use parts::U_LOG;
 use parts::least;
 use parts::less;
 
@@ -17,8 +18,10 @@ use parts::less;
 fn adds(states: u16, j: usize, at: usize) -> bool
     ensures { λ r. ⌜ r ≡ (eqb (stateAt states j) ULog && ltb at 32) ⌝ }
 {
-    let ulog = parts::state_at(states, j as u64) == 3;
-    ulog & (at < 32)
+    match parts::state_at(states, j as u64) {
+        U_LOG => at < 32,
+        _ => false,
+    }
 }
 
 // The numbers of the new entries put from place `from` on, one for each ULog word of the line: in the array of the threads, of the words and

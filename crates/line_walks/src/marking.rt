@@ -4,6 +4,7 @@ ghost use Prim.Native.Nat.{_/_, _%_};
 ghost use lib.ListN.{length, getD, set, take};
 ghost use Rattle.parts.specs.States.{withState};
 ghost use Rattle.line_walks.specs.Walks.{allMarked};
+use parts::UR_LOG;
 use parts::least;
 
 // The state of a word replaced, in the states of all 64 lines. There are four states; a word past the last line has none.
@@ -25,7 +26,7 @@ pub fn mark_logged(states: &mut [u16; 64], words: &[u16; 16], count: usize)
     let end = least(count, 16);
     let mut i = 0;
     while i < end {
-        mark(states, words[i], 2);
+        mark(states, words[i], UR_LOG);
         i += 1;
     }
 }

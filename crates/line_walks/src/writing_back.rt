@@ -7,6 +7,7 @@ ghost use Rattle.log.specs.Stores.{storedUnder};
 ghost use Rattle.parts.specs.States.{stateAt, Dirty};
 ghost use Rattle.model.specs.Lists.{any, upTo};
 ghost use Rattle.line_walks.specs.Walks.{lineStores};
+use parts::DIRTY;
 
 // A word of the line is Dirty, by the line's states.
 pub fn has_dirty(states: u16) -> bool
@@ -15,7 +16,10 @@ pub fn has_dirty(states: u16) -> bool
     let mut found = false;
     let mut word = 0;
     while word < 8 {
-        found = found | (parts::state_at(states, word) == 1);
+        match parts::state_at(states, word) {
+            DIRTY => found = true,
+            _ => {}
+        }
         word += 1;
     }
     found

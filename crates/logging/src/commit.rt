@@ -13,6 +13,7 @@ use crate::redos::append_redos;
 use crate::undos::append_undos;
 use log::NUMBERS;
 use log::Record;
+use parts::U_LOG;
 
 // Where appending has come to: the number of the next record, and what is left of the supply.
 struct Progress {
@@ -33,22 +34,24 @@ fn append_word(
     ensures { λ (r : Progress). ⌜ Progressed (at .left) (now (log .entry)) (at .number)
         (redosOf (now (working .entry)) thread (ulogWord word state)) (now (log .exit)) (r .number) (r .left) ⌝ }
 {
-    if state != 3 {
-        return at;
-    }
-    let left = log::append(
-        log,
-        at.number,
-        Record::Redo {
-            thread: thread,
-            word: word as u16,
-            redo: working[word],
-        },
-        at.left,
-    );
-    Progress {
-        number: at.number + 1,
-        left: left,
+    match state {
+        U_LOG => {
+            let left = log::append(
+                log,
+                at.number,
+                Record::Redo {
+                    thread: thread,
+                    word: word as u16,
+                    redo: working[word],
+                },
+                at.left,
+            );
+            Progress {
+                number: at.number + 1,
+                left: left,
+            }
+        }
+        _ => at,
     }
 }
 

@@ -9,6 +9,7 @@ ghost use Rattle.parts.specs.Lines.{firstLines};
 ghost use Rattle.parts.specs.States.{stateAt, ULog};
 ghost use Rattle.model.specs.Lists.{keep, upTo};
 ghost use Rattle.logging.specs.Newest.{linesOf, newestWords, newestInLine};
+use parts::U_LOG;
 use parts::least;
 
 // How many words of a line are ULog, by the line's states.
@@ -19,8 +20,9 @@ pub fn count_ulog(states: u16) -> usize
     let mut count = 0;
     let mut j = 0;
     while j < 8 {
-        if parts::state_at(states, j) == 3 {
-            count += 1;
+        match parts::state_at(states, j) {
+            U_LOG => count += 1,
+            _ => {}
         }
         j += 1;
     }

@@ -8,6 +8,10 @@ mod redos;
 mod undos;
 
 pub use finding::find;
+pub use line_states::CLEAN;
+pub use line_states::DIRTY;
+pub use line_states::U_LOG;
+pub use line_states::UR_LOG;
 pub use line_states::state_at;
 pub use line_states::with_state;
 pub use numbers::least;

@@ -6,6 +6,16 @@ ghost use lib.Dec.{ltb};
 ghost use Rattle.parts.specs.States.{stateAt, withState};
 ghost use Rattle.parts.specs.Lines.{freeLines};
 
+// "0 Clean, 1 Dirty (its entry waits in the undo+redo buffer), 2 URLog (undo and newest redo logged), 3 ULog (undo
+// logged, newest redo not)"
+pub const CLEAN: u64 = 0;
+
+pub const DIRTY: u64 = 1;
+
+pub const UR_LOG: u64 = 2;
+
+pub const U_LOG: u64 = 3;
+
 // The state of word j of a line.
 pub fn state_at(states: u16, j: u64) -> u64
     ensures { λ r. ⌜ r ≡ stateAt states j ⌝ }

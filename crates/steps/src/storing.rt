@@ -30,9 +30,13 @@ use crate::words::state_of;
 use line_walks::mark;
 use line_walks::mark_logged;
 use logging::append_undos;
+use parts::CLEAN;
+use parts::DIRTY;
 use parts::Entry;
 use parts::Lines;
 use parts::RedoBuffer;
+use parts::U_LOG;
+use parts::UR_LOG;
 use parts::UndoBuffer;
 use parts::find;
 use state::DONE;
@@ -43,15 +47,6 @@ use state::Made;
 use state::PLACE;
 use state::THREAD;
 use state::cut;
-
-// The two-bit states that a store tells apart.
-const CLEAN: u64 = 0;
-
-const DIRTY: u64 = 1;
-
-const UR_LOG: u64 = 2;
-
-const U_LOG: u64 = 3;
 
 // A thread other than this one holds the line of the word.
 pub fn held_by_another(holders: &[u8; 64], thread: u64, word: u16) -> bool

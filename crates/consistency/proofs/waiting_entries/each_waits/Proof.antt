@@ -3,21 +3,23 @@ use Prim.Native.Nat.{_-_, _≤_}
 use native.Mathlib.Omega.{arith}
 use borrow.Author.Tests.{not-true, not-false}
 use borrow.Author.Needs.{needs}
+use Rattle.consistency.specs.Linear.{awaited, markOf}
 use Rattle.consistency.proofs.Walking.{ReachedAt, reached-start, reached-more, reached-fails, reached-end}
 use Rattle.consistency.proofs.waiting_entries.each_waits.Statement.{statement}
 use Rattle.consistency.proofs.waiting_entries.each_waits.Tie as tie
 
 abbrev Inv-loop : tie.InvT-loop
-Inv-loop words holders states₀ count threads targets wanted next i₀ states i =
-    (i ≤ count) × ReachedAt count threads targets wanted next words holders states₀ i states
+Inv-loop words holders states₀ count threads targets buffer i₀ states i =
+    (i ≤ count) × ReachedAt count threads targets (awaited buffer) (markOf buffer) words holders states₀ i states
 
 abbrev μ-loop : tie.MeasureT-loop
-μ-loop words holders states₀ count threads targets wanted next i₀ states i = count - i
+μ-loop words holders states₀ count threads targets buffer i₀ states i = count - i
 
 loop-holds : tie.Need-loop-holds Inv-loop μ-loop
 loop-holds c =
     let a = c .before .before .args in
-    (omega arith, reached-start (a .count) (a .threads .now) (a .targets .now) (a .wanted) (a .next) (a .words) (a .holders .now) (a .states .now))
+    let b = a .buffer in
+    (omega arith, reached-start (a .count) (a .threads .now) (a .targets .now) (awaited b) (markOf b) (a .words) (a .holders .now) (a .states .now))
 
 shared-slice-read-thread : tie.Need-shared-slice-read-thread Inv-loop μ-loop
 shared-slice-read-thread c = omega arith
@@ -35,8 +37,9 @@ returns : tie.Need-returns Inv-loop μ-loop
 returns c =
     let a = c .before .before .before .before .before .before .before .before .before .args in
     let head = c .before .before .before .before .before .before .loop in
+    let b = a .buffer in
     let called = c .before .waits in
-    reached-fails (a .count) (a .threads .now) (a .targets .now) (a .wanted) (a .next) (a .words) (a .holders .now) (a .states .now) (head .i)
+    reached-fails (a .count) (a .threads .now) (a .targets .now) (awaited b) (markOf b) (a .words) (a .holders .now) (a .states .now) (head .i)
     (head .states) (called .last .1 .1 .0) (called .result) (c .before .before .before .before .before .loop-test .taken) (head .inv .1)
     (called .ensures) (not-true (called .result) (c .if1 .taken))
 
@@ -50,9 +53,10 @@ loop-again : tie.Need-loop-again Inv-loop μ-loop
 loop-again c =
     let a = c .before .before .before .before .before .before .before .before .before .args in
     let head = c .before .before .before .before .before .before .loop in
+    let b = a .buffer in
     let called = c .before .waits in (
       omega arith,
-      reached-more (a .count) (a .threads .now) (a .targets .now) (a .wanted) (a .next) (a .words) (a .holders .now) (a .states .now) (head .i)
+      reached-more (a .count) (a .threads .now) (a .targets .now) (awaited b) (markOf b) (a .words) (a .holders .now) (a .states .now) (head .i)
           (head .states) (called .last .1 .1 .0) (called .result) (c .before .before .before .before .before .loop-test .taken) (head .inv .1)
           (called .ensures) (not-false (called .result) (c .if1 .left)),
     )
@@ -60,7 +64,8 @@ loop-again c =
 returns-2 : tie.Need-returns-2 Inv-loop μ-loop
 returns-2 c =
     let a = c .before .before .before .before .args in
-    reached-end (a .count) (a .threads .now) (a .targets .now) (a .wanted) (a .next) (a .words) (a .holders .now) (a .states .now)
+    let b = a .buffer in
+    reached-end (a .count) (a .threads .now) (a .targets .now) (awaited b) (markOf b) (a .words) (a .holders .now) (a .states .now)
     (c .before .loop .i) (c .before .loop .states) (c .loop-test .left) (c .before .loop .inv .1)
 
 pub each-waits-spec : {M : Type 1} → statement M

@@ -1,11 +1,13 @@
 -- `has_dirty` meets its contract. `found` says whether one of the words passed is Dirty.
 use Prim.Native.Nat.{ℕ, _+_, _-_, _≤_}
 use mathlib.Core.Path.{_≡_, refl, sym, ap, _∙_}
-use mathlib.Core.Bool.{Bool, _||_, or-false}
+use mathlib.Core.Bool.{Bool, true, false, _||_, or-true, or-false}
 use mathlib.Core.List.{[], _∷_}
+use mathlib.Core.Logic.{⊎-elim}
 use native.Mathlib.Numerals.{add-one}
 use native.Mathlib.Omega.{arith}
 use borrow.Author.Needs.{needs}
+use borrow.Author.Tests.{ne-eqb}
 use lib.Dec.{eqb}
 use Rattle.parts.specs.Listed.{listed}
 use Rattle.parts.specs.States.{stateAt, Dirty}
@@ -15,12 +17,19 @@ use Rattle.line_walks.proofs.writing_back.has_dirty.Statement.{statemen
 use Rattle.line_walks.proofs.writing_back.has_dirty.Tie as tie
 
 -- one word more
-any-next : (f : ℕ → Bool) (n : ℕ) → (any f (upTo n) || f n) ≡ any f (upTo (n + 1))
-unfolding listed any
-any-next f n =
-    rw add-one
-    (sym (any-append f (upTo n) (n ∷ [])
-    ∙ ap (λ (t : Bool). any f (upTo n) || t) (or-false (f n))))
+module _ (f : ℕ → Bool) (n : ℕ) where
+  any-next : (any f (upTo n) || f n) ≡ any f (upTo (n + 1))
+  unfolding listed any
+  any-next =
+      rw add-one
+      (sym (any-append f (upTo n) (n ∷ [])
+      ∙ ap (λ (t : Bool). any f (upTo n) || t) (or-false (f n))))
+
+  any-found : f n ≡ true → true ≡ any f (upTo (n + 1))
+  any-found e = rw (e, or-true) at any-next
+
+  any-passed : f n ≡ false → any f (upTo n) ≡ any f (upTo (n + 1))
+  any-passed e = rw (e, or-false) at any-next
 
 abbrev Inv-loop : tie.InvT-loop
 Inv-loop states found₀ word₀ found word = (word ≤ 8) × (found ≡ any (λ k. eqb (stateAt states k) Dirty) (upTo word))
@@ -43,9 +52,14 @@ loop-less c = omega arith
 
 loop-again : tie.Need-loop-again Inv-loop μ-loop
 loop-again c =
-    let l = c .before .before .loop in (
+    let l = c .before .before .before .loop in
+    let state = c .before .state-at in
+    let test : ℕ → Bool = λ k. eqb (stateAt (c .before .before .before .before .args .states) k) Dirty in (
       omega arith,
-      rw (l .inv .1, c .state-at .ensures) (any-next (λ k. eqb (stateAt (c .before .before .before .args .states) k) Dirty) (l .word)),
+      ⊎-elim
+          (λ w. w .1 ∙ any-found test (l .word) (rw (← state .ensures, w .0 .keys1)))
+          (λ w. w .1 ∙ l .inv .1 ∙ any-passed test (l .word) (rw (← state .ensures) (ne-eqb (state .result) Dirty (w .0 .rest .1))))
+          (c .match .came),
     )
 
 returns : tie.Need-returns Inv-loop μ-loop

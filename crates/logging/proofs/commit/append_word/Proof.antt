@@ -26,11 +26,6 @@ one : (working before after : List ℕ) (t w s n c rest : ℕ) → s ≡ ULog
 one working before after t w s n c rest e left log =
     rw (eq-eqb s ULog e) (progressed-one (Redo t w (getD working w 0)) left log)
 
-returns : tie.Need-returns
-returns c =
-    let a = c .before .before .before .args in
-    none (a .working .now) (a .log .now) (a .thread) (a .word) (a .state) (a .at .number) (a .at .left) (c .if1 .taken)
-
 cast-t11 : tie.Need-cast-t11
 cast-t11 c = search needs
 
@@ -49,22 +44,27 @@ add-t14 c = search needs
 same-length : tie.Need-same-length
 same-length c = search needs
 
-returns-2 : tie.Need-returns-2
-returns-2 c =
+returns : tie.Need-returns
+returns c =
     let r = c .before .before .before .append in
     let a = c .before .before .before .before .before .before .before .before .before .args in
     one (a .working .now) (a .log .now) (r .last .0) (a .thread) (a .word) (a .state) (a .at .number) (a .at .left) (r .result)
-    (c .before .before .before .before .before .before .if1 .left) (r .ensures .0) (r .ensures .1)
+    (c .before .before .before .before .before .before .match .keys1) (r .ensures .0) (r .ensures .1)
+
+returns-2 : tie.Need-returns-2
+returns-2 c =
+    let a = c .before .before .before .args in
+    none (a .working .now) (a .log .now) (a .thread) (a .word) (a .state) (a .at .number) (a .at .left) (c .match .rest .1)
 
 pub append-word-spec : {M : Type 1} → statement M
 append-word-spec =
     tie.close
     (tie.spec
-    returns
     cast-t11
     mul-t12
     shared-slice-read-t14
     append-requires
     add-t14
     same-length
+    returns
     returns-2)

@@ -1,4 +1,4 @@
--- `evicting::count_ulog` meets its contract. `count` is how many of the first `j` words are ULog.
+-- `count_ulog` meets its contract. `count` is how many of the first `j` words are ULog.
 use Prim.Native.Nat.{_-_, _≤_}
 use mathlib.Core.Path.{_≡_, refl, sym, _∙_}
 use mathlib.Core.Bool.{true, false}
@@ -45,12 +45,12 @@ loop-again c =
     let next = count-next (λ i. eqb (stateAt states i) ULog) (l .j) in
     ⊎-elim
     (λ w.
-    let more = next true (eq-eqb (stateAt states (l .j)) ULog (sym (k .ensures) ∙ w .0 .taken)) in
+    let more = next true (eq-eqb (stateAt states (l .j)) ULog (sym (k .ensures) ∙ w .0 .keys1)) in
     (omega arith, omega (arith, w .1), omega (arith, w .1)))
     (λ w.
-    let same = next false (ne-eqb (stateAt states (l .j)) ULog (λ e. w .0 .left (k .ensures ∙ e))) in
+    let same = next false (ne-eqb (stateAt states (l .j)) ULog (λ e. w .0 .rest .1 (k .ensures ∙ e))) in
     (omega arith, omega (arith, w .1), omega (arith, w .1)))
-    (c .if1 .came)
+    (c .match .came)
 
 returns : tie.Need-returns Inv-loop μ-loop
 returns c =

@@ -30,15 +30,20 @@ use Rattle.state.specs.declared.Fields.{Fields}
 use Rattle.state.specs.View.{view}
 use Rattle.steps.proofs.LoggingOldest.{WholeUndos, WholeRedos}
 
--- how many entries are logged first, by the code's test
-pub logs-by : (m : Machine) (w : ℕ) (same t : Bool) (k n : ℕ) → k ≡ stateIn (m .lines) w → n ≡ length (m .buffers .undoRedo)
-    → (not same && (eqb k 0 && leb 16 n)) ≡ t → cond t 1 0 ≡ storeLogs m w same
-unfolding storeLogs
-logs-by m w same t k n a b e = rw (← e, a, b)
+-- how many entries are logged first, by the code's tests: for a Clean word, and for any other
+module _ (m : Machine) (w : ℕ) (same : Bool) (k : ℕ) (kind : k ≡ stateIn (m .lines) w) where
+  pub logs-clean : (t : Bool) (n : ℕ) → n ≡ length (m .buffers .undoRedo) → k ≡ 0 → (not same && leb 16 n) ≡ t
+      → cond t 1 0 ≡ storeLogs m w same
+  unfolding storeLogs
+  logs-clean t n b clean e = rw (← e, b, ← kind, clean)
 
--- the test lets pass only a full buffer
-pub logs-full : (same : Bool) (k n : ℕ) → (not same && (eqb k 0 && leb 16 n)) ≡ true → 16 ≤ n
-logs-full same k n e = leb-true 16 n (both-right (eqb k 0) (leb 16 n) (both-right (not same) (eqb k 0 && leb 16 n) e))
+  pub logs-other : (k ≡ 0 → ⊥) → 0 ≡ storeLogs m w same
+  unfolding storeLogs
+  logs-other ne = rw (← kind, ne-eqb k 0 ne) (pick same)
+    where
+      pick : (t : Bool) → _≡_ {A = ℕ} 0 (cond (not t && false) 1 0)
+      pick true = refl
+      pick false = refl
 
 -- it is one at most, and no more than wait
 pub logs-most : (m : Machine) (w : ℕ) (same : Bool) → (storeLogs m w same ≤ 1) × (storeLogs m w same ≤ length (m .buffers .undoRedo))
@@ -174,11 +179,6 @@ pub record Ready (m : Machine) (r : Fields) : Type 0 where
   pub seen : view r ≡ m
   pub lines : WholeLines (r .lines)
   pub undos : WholeUndos (r .undos)
-
--- only for a Clean word is an entry logged first
-pub logs-none : (m : Machine) (w : ℕ) (same : Bool) (k n : ℕ) → same ≡ false → k ≡ stateIn (m .lines) w → (k ≡ 0 → ⊥) → n ≡ storeLogs m w same → n ≡ 0
-unfolding storeLogs
-logs-none m w same k n e kind ne count = count ∙ rw (e, ← kind, ne-eqb k 0 ne)
 
 -- the state after a store of the same value, and of another
 module _ (m : Machine) (mem : Memory) (t w v : ℕ) (same : Bool) (ls : List Line) where

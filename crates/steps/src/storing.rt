@@ -58,17 +58,21 @@ pub fn held_by_another(holders: &[u8; 64], thread: u64, word: u16) -> bool
     (holder != 255) & (holder != thread)
 }
 
-// How many entries a store logs first, as a place is lacking: the oldest, if another value comes to a Clean word and 16 entries wait.
+// How many entries a store logs first: the oldest, if another value comes to a Clean word and 16 entries wait.
 pub fn logs_first(states: &[u16; 64], len: usize, word: u16, same: bool) -> usize
     requires { ⌜ (word < 512) × (len ≤ 16) ⌝ }
     ensures { λ r. ⌜ ((s : Fields) → s .lines .states ≡ now (states .entry) → s .undos .len ≡ len → word / 8 < s .words / 8
         → r ≡ storeLogs (view s) word same) ⌝ }
 {
-    let clean = state_of(states, word) == CLEAN;
-    if !same & (clean & (16 <= len)) {
-        len + 1 - 16
-    } else {
-        0
+    match state_of(states, word) {
+        CLEAN => {
+            if !same & (16 <= len) {
+                1
+            } else {
+                0
+            }
+        }
+        _ => 0,
     }
 }
 

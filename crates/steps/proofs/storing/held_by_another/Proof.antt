@@ -1,4 +1,4 @@
--- `held_by_another` is the model's test of the line's holder. Assumes nothing.
+-- `held_by_another` is the model's test of the line's holder.
 use borrow.Author.Needs.{needs}
 use Rattle.steps.proofs.storing.held_by_another.Statement.{statement}
 use Rattle.steps.proofs.storing.held_by_another.Tie as tie

@@ -1,8 +1,8 @@
--- `next_state` is the model's state after a store. Assumes nothing.
+-- `next_state` is the model's state after a store.
 use borrow.Author.Needs.{needs}
 use borrow.Author.Tests.{eq-eqb, ne-eqb}
 use Prim.Native.Nat.{ℕ, _+_, _-_, _/_, _≤_, _<_}
-use mathlib.Core.Path.{_≡_, refl}
+use mathlib.Core.Path.{_≡_, refl, sym, _∙_}
 use mathlib.Core.Bool.{true, false}
 use mathlib.Core.List.{List, []}
 use native.Mathlib.Omega.{arith}
@@ -24,7 +24,7 @@ use Rattle.state.specs.declared.Fields.{Fields}
 use Rattle.state.specs.View.{view}
 use Rattle.line_walks.proofs.WordStates.{withStates, first-marked, whole-marked}
 use Rattle.steps.proofs.LoggingOldest.{WholeUndos, WholeRedos, undosGone, undos-gone}
-use Rattle.steps.proofs.Filing.{logs-most, logs-none, none-logged, logs-room, undos-length, next-same, next-other}
+use Rattle.steps.proofs.Filing.{logs-most, logs-other, none-logged, logs-room, undos-length, next-same, next-other}
 use Rattle.steps.proofs.Filing.{held-lines, dirty-lines, whole-dirty, place-found, redos-kept, Ready}
 use Rattle.steps.proofs.Filing.{filed-first, filed-dirty, filed-logged, filed-last}
 use Rattle.steps.proofs.storing.next_state.Statement.{statement}
@@ -121,8 +121,7 @@ module _ (c : tie.After-put-flag) where
   none-first : (c .before .before .before .before .before .before .state-of .result ≡ 0 → ⊥) → view claimed ≡ undosLogged (start .args .count) (view claimed)
   none-first ne =
       none-logged (view claimed) (start .args .count)
-      (logs-none (view s) (e .word) (eqb (e .redo) (e .undo)) (c .before .before .before .before .before .before .state-of .result) (start .args .count)
-      differs kind ne (start .pre .1 .1))
+      (start .pre .1 .1 ∙ sym (logs-other (view s) (e .word) (eqb (e .redo) (e .undo)) _ kind ne))
 
 mark-logged-requires : tie.Need-mark-logged-requires
 mark-logged-requires c κs = search needs

@@ -1,16 +1,17 @@
 -- Lists of stores: the region after none, one, or some of them and then the others; and stores in a part of a region as stores of the whole.
-use Prim.Native.Nat.{ℕ, zero, suc, _+_, _-_, _≤_, _<_}
+use Prim.Native.Nat.{ℕ, zero, suc, _+_, _-_, _<_}
 use native.Mathlib.Nat.{zero-sub, sub-zero, suc-sub-suc}
 use native.Mathlib.Decide.{ℕ-discrete}
 use native.Mathlib.Omega.{arith}
 use mathlib.Core.Bool.{cond}
 use mathlib.Core.Path.{_≡_, refl, sym, ap, _∙_}
-use mathlib.Core.List.{List, [], _∷_, _++_, map}
+use mathlib.Core.List.{List, [], _∷_, _++_}
 use borrow.Author.Tests.{eq-eqb, ne-eqb}
 use lib.Dec.{eqb}
 use lib.ListN.{length, getD, take, drop, set, take-append-drop, length-set}
-use lib.Seq.{take-nil, take-set-le, drop-set-add, getD-set-same, getD-set-other}
-use Rattle.log.specs.Stores.{Store, stored, storedUnder, shift, shifted}
+use lib.Seq.{take-nil, take-set-le, take-set-lt, drop-set-lt, drop-set-add, getD-set-same, getD-set-other}
+use Rattle.log.specs.Stores.{Store, stored, storedUnder, shifted}
+use Rattle.log.specs.Holding.{Every}
 
 -- with no stores the region is as it was
 pub stored-none : (xs : List ℕ) → stored xs [] ≡ xs
@@ -45,31 +46,25 @@ take-append zero xs ys = rw zero-sub
 take-append (suc c) [] ys = rw sub-zero
 take-append (suc c) (x ∷ xs) ys = rw suc-sub-suc (ap (λ r. x ∷ r) (take-append c xs ys))
 
--- stores in the part of a region that begins at base are the shifted ones in the region
-pub stored-part : (base : ℕ) (xs : List ℕ) (ss : List Store) → base ≤ length xs
-    → take base xs ++ stored (drop base xs) ss ≡ stored xs (shifted base ss)
-unfolding stored
-stored-part base xs [] h = take-append-drop base xs
-stored-part base xs (s ∷ ss) h =
-    let fits : base ≤ length (set xs (base + s .at) (s .value)) = simp length-set h in
-    let kept : base ≤ base + s .at = omega arith in
-    simp (take-set-le base xs (base + s .at) (s .value) kept, drop-set-add) at
-    (stored-part base (set xs (base + s .at) (s .value)) ss fits)
-
 -- two lists of stores under one supply: the second is made under what the first leaves
 pub under-append : (c : ℕ) (xs : List ℕ) (ss ts : List Store) → storedUnder c xs (ss ++ ts) ≡ storedUnder (c - length ss) (storedUnder c xs ss) ts
 under-append c xs ss ts = ap (stored xs) (take-append c ss ts) ∙ stored-append xs (take c ss) (take (c - length ss) ts)
 
--- the first of some images are the images of the first
-take-map : {A B : Type 0} (f : A → B) (c : ℕ) (xs : List A) → take c (map f xs) ≡ map f (take c xs)
-take-map f zero xs = refl
-take-map f (suc c) [] = refl
-take-map f (suc c) (x ∷ xs) = ap (λ r. f x ∷ r) (take-map f c xs)
-
--- and so they are under a supply
-pub under-part : (c base : ℕ) (xs : List ℕ) (ss : List Store) → base ≤ length xs
-    → take base xs ++ storedUnder c (drop base xs) ss ≡ storedUnder c xs (shifted base ss)
-under-part c base xs ss h = stored-part base xs (take c ss) h ∙ ap (stored xs) (sym (take-map (shift base) c ss))
+-- stores in the k words of a region from base on are, under a supply, the shifted ones in the region
+pub under-part : (c base k : ℕ) (xs : List ℕ) (ss : List Store) → Every (λ s. s .at < k) ss
+    → take base xs ++ (storedUnder c (take k (drop base xs)) ss ++ drop k (drop base xs)) ≡ storedUnder c xs (shifted base ss)
+unfolding stored
+under-part zero base k xs ss inside = simp take-append-drop
+under-part (suc c) base k xs [] inside = simp take-append-drop
+under-part (suc c) base k xs (s ∷ ss) inside =
+    let part : List ℕ = drop base xs in
+    simp (
+      take-set-le base xs (base + s .at) (s .value) (omega arith),
+      drop-set-add,
+      take-set-lt k part (s .at) (s .value) (inside .0),
+      drop-set-lt k part (s .at) (s .value) (inside .0),
+    ) at
+    (under-part c base k (set xs (base + s .at) (s .value)) ss (inside .1))
 
 -- where there are no stores, supply and region are as they were
 pub under-none : (c : ℕ) (xs : List ℕ) (ss : List Store) → ss ≡ [] → (c ≡ c - length ss) × (xs ≡ storedUnder c xs ss)

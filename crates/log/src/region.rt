@@ -60,7 +60,8 @@ fn torn_bit(slots: u64, number: u64) -> u64
     1 - number / slots % 2
 }
 
-// Appends a record under its number: its slot's part of the log is lent to the record writer. Hands back what is left of the supply.
+// Appends a record under its number: the slot's part of the log, three words from 1+3s on, is lent to the record writer.
+// Hands back what is left of the supply.
 pub fn append(log: &mut [u64], number: u64, entry: Record, supply: u64) -> u64
     ensures { λ r. ⌜ r ≡ supply - length (recordStores (slotsOf (now (log .entry))) number entry) ⌝ }
     ensures { λ r. ⌜ now (log .exit) ≡ storedUnder supply (now (log .entry)) (recordStores (slotsOf (now (log .entry))) number entry) ⌝ }
@@ -71,7 +72,8 @@ pub fn append(log: &mut [u64], number: u64, entry: Record, supply: u64) -> u64
     }
     let torn = torn_bit(l, number);
     let base = place(l, number);
-    write(&mut log[base..], entry, torn, supply)
+    let end = base + 3;
+    write(&mut log[base..end], entry, torn, supply)
 }
 
 // Whether record `number` is there: it is below 2^48, and the torn bit in its slot is right.

@@ -90,9 +90,9 @@ fn header_of(entry: Record, torn: u64) -> u64
     }
 }
 
-// Lent the log from a slot's first word on: stores undo, redo and header in this order, as many as the supply allows,
-// and hands back what is left of it.
-pub fn write(slot: &mut [u64], entry: Record, torn: u64, supply: u64) -> u64
+// Lent the three words of a slot: stores undo, redo and header in this order, as many as the supply allows, and hands back
+// what is left of it.
+pub(crate) fn write(slot: &mut [u64], entry: Record, torn: u64, supply: u64) -> u64
     requires { ⌜ torn < 2 ⌝ }
     ensures { λ r. ⌜ r ≡ supply - 3 ⌝ }
     ensures { λ r. ⌜ now (slot .exit) ≡ storedUnder supply (now (slot .entry)) (slotStores torn entry) ⌝ }
@@ -159,7 +159,7 @@ fn decode_words(words: u16, undo: u64, redo: u64, header: u64) -> Reading
 }
 
 // The record in the three words of a slot, `words` being W.
-pub fn decode(slot: &[u64], words: u16) -> Reading
+pub(crate) fn decode(slot: &[u64], words: u16) -> Reading
     ensures { λ r. ⌜ r ≡ decodedSlot words (now (slot .entry)) ⌝ }
 {
     if slot.len() != 3 {

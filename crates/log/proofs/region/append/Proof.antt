@@ -1,19 +1,19 @@
 -- `region::append` meets its contract: what the record writer stores in its part of the log are the stores of that record in the log.
-use Prim.Native.Nat.{ℕ, _+_, _-_, _≤_, _<_}
-use native.Mathlib.Nat.{le-of-eq}
+use Prim.Native.Nat.{ℕ, _+_, _-_, _<_}
+use native.Mathlib.Nat.{add-sub-cancel-left}
 use native.Mathlib.Omega.{arith}
 use mathlib.Core.Bool.{true, false, _||_}
 use mathlib.Core.Path.{_≡_}
-use mathlib.Core.List.{List, [], append-nil}
+use mathlib.Core.List.{List, []}
 use borrow.Author.Needs.{needs}
 use borrow.Rule.Slice.PartMut.{midOf, putMid}
 use lib.Dec.{eqb, leb}
-use lib.ListN.{length, drop, length-drop, drop-of-length-le}
-use lib.Seq.{take-all}
+use lib.ListN.{length}
 use Rattle.log.specs.declared.Record.{Record}
-use Rattle.log.specs.Stores.{Store, storedUnder, shifted}
+use Rattle.log.specs.Stores.{storedUnder, shifted}
 use Rattle.log.specs.Layout.{tornBit, slotStores}
 use Rattle.log.specs.Region.{numbers, placeOf, recordStores}
+use Rattle.log.specs.Holding.{Every}
 use Rattle.log.proofs.Stored.{under-none, under-part}
 use Rattle.log.proofs.Sizes.{Sized, sized, turned, some-slots}
 use Rattle.log.proofs.Numbers.{place-fits}
@@ -30,14 +30,15 @@ some : (l n : ℕ) (r : Record) → eqb l 0 || leb numbers n ≡ false → recor
 unfolding recordStores
 some l n r e = rw (turned l n, e)
 
--- the log, when the part that was lent from base on is back with these stores made in it
-put-back : (c base : ℕ) (xs ys : List ℕ) (ss : List Store) → base ≤ length xs → ys ≡ storedUnder c (midOf base (length xs - base) xs) ss
-    → putMid base (length xs - base) xs ys ≡ storedUnder c xs (shifted base ss)
-put-back c base xs ys ss h e =
-    let short : length (drop base xs) ≤ length xs - base = le-of-eq (length-drop base xs) in
-    simp
-    (e, take-all (length xs - base) (drop base xs) short, drop-of-length-le (drop base xs) short, append-nil)
-    (under-part c base xs ss h)
+-- the stores of a slot are in its three words
+in-slot : (torn : ℕ) (r : Record) → Every (λ s. s .at < 3) (slotStores torn r)
+unfolding slotStores
+in-slot torn r = (omega arith, (omega arith, (omega arith, tt)))
+
+-- the log, when the three words that were lent from base on are back with these stores made in them
+put-back : (c base : ℕ) (xs ys : List ℕ) (torn : ℕ) (r : Record) → ys ≡ storedUnder c (midOf base (base + 3 - base) xs) (slotStores torn r)
+    → putMid base (base + 3 - base) xs ys ≡ storedUnder c xs (shifted base (slotStores torn r))
+put-back c base xs ys torn r e = rw (e, add-sub-cancel-left base 3) (under-part c base 3 xs (slotStores torn r) (in-slot torn r))
 
 slots-requires : tie.Need-slots-requires
 slots-requires c κs = search needs
@@ -55,7 +56,7 @@ returns c =
 size : (c : tie.Else1) → Sized (length (c .before .before .before .before .args .log .now)) (c .before .slots .result)
 size c = sized _ _ (c .before .slots .ensures) (some-slots (c .before .slots .result) (c .before .before .before .before .args .number) (c .if1 .left))
 
--- the part that is lent begins within the log
+-- the part that is lent ends within the log
 within : (c : tie.After-place) → c .place .result + 2 < length (c .before .before .before .before .before .before .args .log .now)
 within c =
     let s = size (c .before .before) in
@@ -67,17 +68,20 @@ torn-bit-requires c κs = let s = size c in omega arith
 place-requires : tie.Need-place-requires
 place-requires c κs = let s = size (c .before) in omega arith
 
+add-end : tie.Need-add-end
+add-end c = let s = size (c .before .before) in omega (arith, within c)
+
 mul-write : tie.Need-mul-write
 mul-write c = let s = size (c .before .before) in omega (arith, within c)
 
 sub-write : tie.Need-sub-write
-sub-write c = omega (arith, within c)
+sub-write c = search needs
 
 part-write-start : tie.Need-part-write-start
-part-write-start c = omega (arith, within c)
+part-write-start c = search needs
 
 part-write-end : tie.Need-part-write-end
-part-write-end c = search needs
+part-write-end c = let s = size (c .before .before) in omega (arith, within c)
 
 write-requires : tie.Need-write-requires
 write-requires c κs = search needs
@@ -91,14 +95,15 @@ returns-2 c =
     let placed = c .before .before .before .before in
     let passed = placed .before .before in
     let a = passed .before .before .before .before .args in
-    let base : placed .place .result ≤ length (a .log .now) = omega (arith, within placed) in
+    let torn = placed .before .torn-bit in
+    let written = c .before .before .write .ensures in
     rw (
       ← passed .before .slots .ensures,
       some (passed .before .slots .result) (a .number) (a .entry) (passed .if1 .left),
       ← placed .place .ensures,
-      ← placed .before .torn-bit .ensures,
+      ← torn .ensures,
     )
-    (c .before .before .write .ensures .0, put-back (a .supply) _ (a .log .now) _ _ base (c .before .before .write .ensures .1))
+    (written .0, put-back (a .supply) _ (a .log .now) _ (torn .result) (a .entry) (written .1))
 
 pub append-spec : {M : Type 1} → statement M
 append-spec =
@@ -109,6 +114,7 @@ append-spec =
     returns
     torn-bit-requires
     place-requires
+    add-end
     mul-write
     sub-write
     part-write-start

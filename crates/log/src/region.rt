@@ -4,7 +4,7 @@ ghost use Prim.Native.Nat.{_-_, _<_};
 ghost use lib.ListN.{length};
 ghost use Rattle.log.specs.Stores.{storedUnder};
 ghost use Rattle.log.specs.Layout.{tornBit};
-ghost use Rattle.log.specs.Region.{slotsOf, headOf, placeOf, recordStores, headStores, isWritten, readBack, tailOf};
+ghost use Rattle.log.specs.Region.{slotsOf, headOf, placeOf, recordStores, headStores, isWritten, readBack};
 use crate::Reading;
 use crate::Record;
 use crate::slot::decode;
@@ -99,20 +99,4 @@ pub fn read(log: &[u64], number: u64, words: u16) -> Reading
     let base = place(l, number);
     let end = base + 3;
     decode(&log[base..end], words)
-}
-
-// The number of the next record: from the head on, the first that is not there.
-pub fn tail(log: &[u64]) -> u64
-    ensures { λ r. ⌜ r ≡ tailOf (now (log .entry)) ⌝ }
-{
-    let mut number = head(log);
-    let mut left = slots(log);
-    while 0 < left {
-        if !is_written(log, number) {
-            return number;
-        }
-        number += 1;
-        left -= 1;
-    }
-    number
 }

@@ -9,9 +9,10 @@ use lib.Dec.{eqb}
 use lib.ListN.{length, getD, length-append, List·getD-eq-default}
 use Rattle.parts.specs.declared.Entry.{Entry}
 use Rattle.parts.specs.declared.Line.{Line}
-use Rattle.parts.specs.declared.Lines.{Lines}
+use Rattle.lines.specs.declared.Lines.{Lines}
 use Rattle.parts.specs.Listed.{listed}
-use Rattle.parts.specs.Lines.{freeLine, lineAt, firstLines}
+use Rattle.parts.specs.Lines.{freeLine}
+use Rattle.lines.specs.Lines.{lineAt, firstLines}
 use Rattle.parts.specs.States.{stateAt, Clean, Dirty}
 use Rattle.parts.proofs.Listed.{length-listed, getD-listed}
 use Rattle.model.specs.Lists.{keep, all}

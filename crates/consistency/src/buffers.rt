@@ -2,10 +2,10 @@
 ghost use mathlib.Core.Path.{_≡_};
 ghost use lib.Dec.{eqb};
 ghost use Rattle.consistency.specs.Linear.{awaited, markOf};
-use parts::CLEAN;
-use parts::DIRTY;
-use parts::U_LOG;
-use parts::UR_LOG;
+use lines::CLEAN;
+use lines::DIRTY;
+use lines::U_LOG;
+use lines::UR_LOG;
 
 // The buffer that an entry is in.
 pub enum Buffer {

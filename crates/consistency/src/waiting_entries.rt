@@ -29,11 +29,11 @@ fn waits(
     let at = (word / 8) as usize;
     let place = (word % 8) as u64;
     let line = states[at];
-    let found = buffer.waits_for(parts::state_at(line, place));
+    let found = buffer.waits_for(lines::state_at(line, place));
     if !((thread < 8) & ((thread == holders[at]) & found)) {
         return false;
     }
-    states[at] = parts::with_state(line, place, buffer.mark());
+    states[at] = lines::with_state(line, place, buffer.mark());
     true
 }
 

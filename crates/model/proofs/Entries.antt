@@ -11,7 +11,7 @@ use lib.ListN.{length, drop}
 use Rattle.log.specs.Holding.{Every}
 use Rattle.parts.specs.declared.Entry.{Entry}
 use Rattle.parts.specs.Listed.{listed}
-use Rattle.parts.specs.Waiting.{discarded, amended, withRedo}
+use Rattle.parts.specs.Entries.{discarded, amended, withRedo}
 use Rattle.model.specs.Lists.{keep, isEmpty}
 use Rattle.model.specs.Machine.{wordsOf}
 use Rattle.model.specs.Consistent.{entriesOf}

@@ -4,7 +4,6 @@ pub mod Lists
 pub mod LastTo
 pub mod Records
 pub mod Lines
-pub mod LinesInUse
 pub mod Entries
 pub mod FirstNumbers
 pub mod Core

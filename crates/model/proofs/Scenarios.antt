@@ -6,7 +6,7 @@ use Rattle.log.specs.Layout.{slotStores, decoded}
 use Rattle.log.specs.Region.{slotsFor, recordStores, headStores, isWritten, readBack, searched, readFrom}
 use Rattle.parts.specs.Listed.{listed}
 use Rattle.parts.specs.States.{stateAt, withState}
-use Rattle.parts.specs.Waiting.{discarded, amended}
+use Rattle.parts.specs.Entries.{discarded, amended}
 use Rattle.model.specs.Lists.{keep, all, any}
 use Rattle.model.specs.Machine.{stateIn, holderIn, dirtyIn, changed, marked, wordsMarked, allLogged}
 use Rattle.model.specs.Consistent.{lineLimits, entryLimits, withinLimits, dirtyWait, redoClean, entriesHeld, holdersOpen, freeClean}

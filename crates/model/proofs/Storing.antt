@@ -19,7 +19,7 @@ use Rattle.parts.specs.declared.Entry.{Entry}
 use Rattle.parts.specs.declared.Line.{Line}
 use Rattle.parts.specs.Lines.{nobody}
 use Rattle.parts.specs.States.{Clean, Dirty, URLog, ULog, stateAt}
-use Rattle.parts.specs.Waiting.{withRedo}
+use Rattle.parts.specs.Entries.{withRedo}
 use Rattle.model.specs.Lists.{keep, isEmpty}
 use Rattle.model.specs.Machine.{Machine, Memory, withLines, isOpen, lineOf, stateIn, holderIn, dirtyIn, changed}
 use Rattle.model.specs.Machine.{marked, allLogged}

@@ -13,7 +13,7 @@ use Rattle.parts.specs.declared.Verdict.{Verdict}
 use Rattle.parts.specs.declared.Verdict.the-variants.{Nothing, Damaged, Open, Needed, Spare}
 use Rattle.parts.specs.Lines.{nobody}
 use Rattle.parts.specs.States.{Clean, Dirty, URLog, ULog}
-use Rattle.parts.specs.Waiting.{discarded, amended}
+use Rattle.parts.specs.Entries.{discarded, amended}
 use Rattle.model.specs.Lists.{keep, upTo, isEmpty}
 use Rattle.model.specs.Machine.{Machine, Memory, noEntries, withHead, withTail, withOpened, withLines, withBuffers}
 use Rattle.model.specs.Machine.{withUndoRedo, withRedo, isOpen, wordsOf, lineOf, stateIn, holderIn, heldBy, dirtyAs}

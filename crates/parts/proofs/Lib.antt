@@ -1,9 +1,4 @@
--- The laws of the parts.
+-- Laws of lists by their elements, and of the two-bit word states.
 pub mod Listed
 pub mod States
-pub mod FirstLines
-pub mod Waiting
 pub mod Oldest
-pub mod Places
-pub mod Closed
-pub mod Placed

@@ -1,19 +1,7 @@
-// The parts of the machine's state: the two log buffers, and the lines with the states of their words.
+// The types that the model names: an entry, a line, a step, the verdict on the oldest record.
 
-mod closing;
-mod finding;
-mod line_states;
 mod numbers;
-mod redos;
-mod undos;
 
-pub use finding::find;
-pub use line_states::CLEAN;
-pub use line_states::DIRTY;
-pub use line_states::U_LOG;
-pub use line_states::UR_LOG;
-pub use line_states::state_at;
-pub use line_states::with_state;
 pub use numbers::least;
 pub use numbers::less;
 
@@ -25,35 +13,11 @@ pub struct Entry {
     pub redo: u64,
 }
 
-// The undo+redo buffer: up to 16 entries, by their fields, oldest first. Places from `len` on are not in use.
-pub struct UndoBuffer {
-    pub undos: [u64; 16],
-    pub redos: [u64; 16],
-    pub len: usize,
-    pub threads: [u8; 16],
-    pub words: [u16; 16],
-}
-
-// The redo buffer: up to 32 entries, in the same way. A redo entry has no undo.
-pub struct RedoBuffer {
-    pub redos: [u64; 32],
-    pub len: usize,
-    pub threads: [u8; 32],
-    pub words: [u16; 32],
-}
-
 // What the state keeps of a line of eight words.
 pub struct Line {
     pub holder: u8,
     pub dirty: bool,
     pub states: u16,
-}
-
-// Up to 64 lines, by their fields.
-pub struct Lines {
-    pub holders: [u8; 64],
-    pub dirty: [bool; 64],
-    pub states: [u16; 64],
 }
 
 // One of the nine steps.

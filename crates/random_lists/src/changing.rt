@@ -7,11 +7,11 @@ use crate::numbers::one_of;
 use crate::numbers::rest;
 use crate::numbers::sum;
 use crate::setup::Plan;
+use buffers::RedoBuffer;
+use buffers::UndoBuffer;
+use lines::Lines;
+use lines::with_state;
 use log::NUMBERS;
-use parts::Lines;
-use parts::RedoBuffer;
-use parts::UndoBuffer;
-use parts::with_state;
 use state::Fields;
 
 // A number below 2^16

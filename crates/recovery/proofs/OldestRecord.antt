@@ -14,15 +14,16 @@ use Rattle.log.specs.declared.Reading.the-variants.{Good}
 use Rattle.log.specs.Region.{readBack, readFrom}
 use Rattle.log.proofs.Searching.{read-none}
 use Rattle.parts.specs.declared.Line.{Line}
-use Rattle.parts.specs.declared.Lines.{Lines}
+use Rattle.lines.specs.declared.Lines.{Lines}
 use Rattle.parts.specs.declared.Verdict.{Verdict}
 use Rattle.parts.specs.declared.Verdict.the-variants.{Nothing, Open, Needed, Spare}
-use Rattle.parts.specs.Lines.{lineAt, firstLines, freeLine}
+use Rattle.lines.specs.Lines.{lineAt, firstLines}
+use Rattle.parts.specs.Lines.{freeLine}
 use Rattle.parts.proofs.Listed.{length-listed}
 use Rattle.model.specs.Machine.{Machine, Memory, lineOf, dirtyIn}
 use Rattle.model.specs.Readings.{records, closed}
 use Rattle.model.specs.Verdict.{judged, verdictOn, verdict}
-use Rattle.model.proofs.LinesInUse.{line-in-use}
+use Rattle.lines.proofs.LinesInUse.{line-in-use}
 use Rattle.state.specs.declared.Fields.{Fields}
 use Rattle.state.specs.View.{view}
 

@@ -3,7 +3,7 @@ use Prim.Native.Nat.{ℕ, _/_, _≤_}
 use mathlib.Core.Path.{_≡_, refl, sym, ap, _∙_}
 use native.Mathlib.Omega.{arith}
 use Rattle.parts.specs.Listed.{listed}
-use Rattle.parts.proofs.FirstLines.{first-free}
+use Rattle.lines.proofs.FirstLines.{first-free}
 use Rattle.model.specs.Machine.{lostMachine, freshMachine, withLines}
 use Rattle.state.specs.declared.Fields.{Fields}
 use Rattle.state.specs.declared.Made.{Made}

@@ -3,8 +3,8 @@ use Prim.Native.Nat.{ℕ}
 use mathlib.Core.Path.{_≡_}
 use mathlib.Core.Bool.{true, false, cond}
 use lib.ListN.{replicate}
-use Rattle.parts.specs.Lines.{freeLines}
-use Rattle.parts.specs.Waiting.{emptyUndos, emptyRedos}
+use Rattle.lines.specs.Lines.{freeLines}
+use Rattle.buffers.specs.Waiting.{emptyUndos, emptyRedos}
 use Rattle.model.specs.Step.{Step, takesState}
 use Rattle.state.specs.declared.Fields.{Fields}
 use Rattle.state.specs.declared.Made.{Made}

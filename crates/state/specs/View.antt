@@ -1,8 +1,8 @@
 -- The state of the code as the state of the model, and what a step hands back as the model's outcome.
 use Prim.Native.Nat.{ℕ, _/_}
 use mathlib.Core.List.{List}
-use Rattle.parts.specs.Waiting.{undosWaiting, redosWaiting}
-use Rattle.parts.specs.Lines.{firstLines}
+use Rattle.buffers.specs.Waiting.{undosWaiting, redosWaiting}
+use Rattle.lines.specs.Lines.{firstLines}
 use Rattle.model.specs.Machine.{Machine, Memory}
 use Rattle.model.specs.Plan.{Outcome}
 use Rattle.state.specs.declared.Fields.{Fields}

@@ -1,13 +1,13 @@
 // The state by its fields, what a step hands back, and what every step shares: the buffers that it is lent, the lost state and the way out
 // of a cut.
-use parts::Lines;
-use parts::RedoBuffer;
-use parts::UndoBuffer;
+use buffers::RedoBuffer;
+use buffers::UndoBuffer;
+use lines::Lines;
 
-mod buffers;
+mod memory;
 mod ways_out;
 
-pub use buffers::wrong_lengths;
+pub use memory::wrong_lengths;
 pub use ways_out::cut;
 pub use ways_out::lost;
 

@@ -5,10 +5,10 @@ ghost use Rattle.state.specs.HandedBack.{lostFields};
 use crate::CUT;
 use crate::Fields;
 use crate::Made;
-use crate::buffers::clear;
-use parts::Lines;
-use parts::RedoBuffer;
-use parts::UndoBuffer;
+use crate::memory::clear;
+use buffers::RedoBuffer;
+use buffers::UndoBuffer;
+use lines::Lines;
 
 // "dark: one fixed value, its other numbers 0"
 pub fn lost() -> Fields

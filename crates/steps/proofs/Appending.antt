@@ -14,7 +14,7 @@ use Rattle.model.specs.Step.{Step}
 use Rattle.model.proofs.Performing.{puts-append, written-log, cleared}
 use Rattle.model.proofs.Rows.{Room}
 use Rattle.model.proofs.Fit.{Fit}
-use Rattle.logging.proofs.Appending.{Appended}
+use Rattle.buffers.proofs.Appending.{Appended}
 use Rattle.state.specs.declared.Fields.{Fields}
 use Rattle.state.specs.declared.Made.{Made}
 use Rattle.state.specs.View.{view}

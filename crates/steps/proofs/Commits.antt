@@ -14,13 +14,13 @@ use Rattle.log.specs.Stores.{Store, storedUnder}
 use Rattle.log.specs.Region.{numbers, slotsOf, recordsStores}
 use Rattle.log.specs.Holding.{Every}
 use Rattle.parts.specs.declared.Line.{Line}
-use Rattle.parts.specs.declared.Lines.{Lines}
+use Rattle.lines.specs.declared.Lines.{Lines}
 use Rattle.parts.specs.Listed.{listed}
-use Rattle.parts.specs.Lines.{firstLines}
+use Rattle.lines.specs.Lines.{firstLines}
 use Rattle.parts.specs.States.{URLog, ULog}
-use Rattle.parts.specs.Waiting.{undosWaiting}
+use Rattle.buffers.specs.Waiting.{undosWaiting}
 use Rattle.parts.proofs.Listed.{length-listed}
-use Rattle.parts.proofs.Waiting.{undoAt, redoAt}
+use Rattle.buffers.proofs.Waiting.{undoAt, redoAt}
 use Rattle.model.specs.Lists.{upTo}
 use Rattle.model.specs.Machine.{Machine, Memory, lineOf, stateIn, holderIn, changed, marked, wordsMarked, allLogged}
 use Rattle.model.specs.Refusals.{numberOf, common, noRoom}
@@ -29,10 +29,10 @@ use Rattle.model.specs.Step.{commit}
 use Rattle.model.proofs.Lists.{both-left, every-kept, every-listed}
 use Rattle.model.proofs.Lines.{holder-marked, holder-logged}
 use Rattle.model.proofs.Rows.{None, none-apply, own-refusals, room}
-use Rattle.logging.specs.Newest.{linesOf}
-use Rattle.logging.specs.Records.{commitRecordsOf}
-use Rattle.logging.proofs.Appending.{Appended}
-use Rattle.logging.proofs.Guards.{commit-of}
+use Rattle.lines.specs.Newest.{linesOf}
+use Rattle.buffers.specs.Records.{commitRecordsOf}
+use Rattle.buffers.proofs.Appending.{Appended}
+use Rattle.buffers.proofs.Guards.{commit-of}
 use Rattle.state.specs.declared.Fields.{Fields}
 use Rattle.state.specs.View.{view, memory}
 use Rattle.steps.specs.Committing.{HasEntries, Allowed}

@@ -8,29 +8,30 @@ use borrow.Author.Tests.{lt-ltb}
 use lib.Dec.{ltb}
 use lib.ListN.{length, getD, set, drop, replicate, length-map}
 use Rattle.parts.specs.declared.Entry.{Entry}
-use Rattle.parts.specs.declared.RedoBuffer.{RedoBuffer}
+use Rattle.buffers.specs.declared.RedoBuffer.{RedoBuffer}
 use Rattle.parts.specs.declared.Line.{Line}
-use Rattle.parts.specs.declared.Lines.{Lines}
+use Rattle.lines.specs.declared.Lines.{Lines}
 use Rattle.parts.specs.Listed.{listed}
-use Rattle.parts.specs.Lines.{lineAt, firstLines}
+use Rattle.lines.specs.Lines.{lineAt, firstLines}
 use Rattle.parts.specs.States.{stateAt, ULog}
-use Rattle.parts.specs.Waiting.{waitingOf, redosWaiting}
-use Rattle.parts.proofs.Waiting.{WholeKeys, redoAt}
+use Rattle.buffers.specs.Waiting.{waitingOf, redosWaiting}
+use Rattle.buffers.proofs.Waiting.{WholeKeys, redoAt}
 use Rattle.parts.proofs.Listed.{length-listed}
 use Rattle.parts.proofs.Oldest.{length-oldest}
-use Rattle.parts.proofs.FirstLines.{WholeLines}
+use Rattle.lines.proofs.FirstLines.{WholeLines}
 use Rattle.model.specs.Lists.{keep}
 use Rattle.model.specs.Machine.{Machine, Memory, withTail, withLines, withRedo, lineOf, statesAs, changed}
 use Rattle.model.specs.Refusals.{numberOf, common, noRoom}
 use Rattle.model.specs.Steps.{evicted, lacking, redoRecord, redoRecords, redosLogged, evictRecords, evictRows, evictNext}
 use Rattle.model.specs.Step.{evict, stepped}
-use Rattle.model.proofs.LinesInUse.{line-in-use, first-changed}
+use Rattle.lines.proofs.LinesInUse.{line-in-use, first-changed}
 use Rattle.model.proofs.Rows.{None, none-apply, own-refusals, room}
-use Rattle.line_walks.specs.Walks.{ulogWords, refilled, wordsIn, valuesIn}
-use Rattle.line_walks.proofs.Refilled.{ulogEntry, entries-refilled}
-use Rattle.line_walks.proofs.WordStates.{withStates, state-put}
-use Rattle.logging.proofs.LineWords.{keep-below}
-use Rattle.logging.proofs.Appending.{Appended}
+use Rattle.lines.specs.Walks.{ulogWords}
+use Rattle.buffers.specs.Filled.{refilled, wordsIn, valuesIn}
+use Rattle.buffers.proofs.Refilled.{ulogEntry, entries-refilled}
+use Rattle.lines.proofs.WordStates.{withStates, state-put}
+use Rattle.lines.proofs.LineWords.{keep-below}
+use Rattle.buffers.proofs.Appending.{Appended}
 use Rattle.state.specs.declared.Fields.{Fields}
 use Rattle.state.specs.View.{view, shown}
 use Rattle.steps.proofs.Outcome.{common-narrow, Comes}

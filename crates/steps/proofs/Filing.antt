@@ -9,20 +9,21 @@ use lib.Dec.{eqb, leb}
 use lib.ListN.{length, getD, set, length-set}
 use lib.Seq.{set-getD}
 use Rattle.parts.specs.declared.Entry.{Entry}
-use Rattle.parts.specs.declared.UndoBuffer.{UndoBuffer}
-use Rattle.parts.specs.declared.RedoBuffer.{RedoBuffer}
+use Rattle.buffers.specs.declared.UndoBuffer.{UndoBuffer}
+use Rattle.buffers.specs.declared.RedoBuffer.{RedoBuffer}
 use Rattle.parts.specs.declared.Line.{Line}
-use Rattle.parts.specs.declared.Lines.{Lines}
-use Rattle.parts.specs.Lines.{lineAt, firstLines, putLine}
+use Rattle.lines.specs.declared.Lines.{Lines}
+use Rattle.lines.specs.Lines.{lineAt, firstLines, putLine}
 use Rattle.parts.specs.States.{Clean, Dirty, ULog}
-use Rattle.parts.specs.Arrays.{closed}
-use Rattle.parts.specs.Waiting.{waitingOf, undosWaiting, redosWaiting, placeOf, discarded, amended}
-use Rattle.parts.proofs.Closed.{redos-discarded}
+use Rattle.buffers.specs.Arrays.{removed}
+use Rattle.buffers.specs.Waiting.{waitingOf, undosWaiting, redosWaiting}
+use Rattle.parts.specs.Entries.{indexOf, discarded, amended}
+use Rattle.buffers.proofs.Removed.{redos-discarded}
 use Rattle.parts.proofs.Listed.{length-listed}
-use Rattle.parts.proofs.Waiting.{undoAt, redoAt, waiting-added}
-use Rattle.parts.proofs.FirstLines.{WholeLines}
-use Rattle.model.proofs.LinesInUse.{first-changed}
-use Rattle.line_walks.proofs.WordStates.{withStates, replaced, first-marked}
+use Rattle.buffers.proofs.Waiting.{undoAt, redoAt, waiting-added}
+use Rattle.lines.proofs.FirstLines.{WholeLines}
+use Rattle.lines.proofs.LinesInUse.{first-changed}
+use Rattle.lines.proofs.WordStates.{withStates, replaced, first-marked}
 use Rattle.model.specs.Machine.{Machine, Memory, changed, marked, heldBy, dirtyAs, stateIn, allLogged, withTail, withLines, withUndoRedo, withRedo}
 use Rattle.model.specs.Steps.{undosLogged, storeLogs, storedAs, storeNext}
 use Rattle.model.proofs.Lists.{both-right}
@@ -136,14 +137,14 @@ filed-first r e k ts ws us vs states ds lines undos short few clean t w u v mark
 
 -- the place that was looked for among as many words as a buffer has entries
 pub place-found : (w len n r : ℕ) (ts ws us rs : List ℕ) → length ws ≡ n → len ≤ n
-    → r ≡ placeOf w (waitingOf (min len (length ws)) ts ws us rs) → r ≡ placeOf w (waitingOf len ts ws us rs)
+    → r ≡ indexOf w (waitingOf (min len (length ws)) ts ws us rs) → r ≡ indexOf w (waitingOf len ts ws us rs)
 place-found w len n r ts ws us rs size short e =
     let m : min len (length ws) ≡ len = omega arith in
     rw m at e
 
--- the redo entries without that of a word, the arrays of the buffer being closed at its place
-pub redos-kept : (b : RedoBuffer) (w at : ℕ) (ts ws vs : List ℕ) → WholeRedos b → b .len ≤ 32 → at < b .len → at ≡ placeOf w (redosWaiting b)
-    → ts ≡ closed at 1 (b .len) (b .threads) → ws ≡ closed at 1 (b .len) (b .words) → vs ≡ closed at 1 (b .len) (b .redos)
+-- the redo entries without that of a word, the arrays of the buffer being removed at its place
+pub redos-kept : (b : RedoBuffer) (w at : ℕ) (ts ws vs : List ℕ) → WholeRedos b → b .len ≤ 32 → at < b .len → at ≡ indexOf w (redosWaiting b)
+    → ts ≡ removed at 1 (b .len) (b .threads) → ws ≡ removed at 1 (b .len) (b .words) → vs ≡ removed at 1 (b .len) (b .redos)
     → waitingOf (b .len - 1) ts ws [] vs ≡ discarded w (redosWaiting b)
 redos-kept b w at ts ws vs keys short below e t x v =
     rw (t, x, v) (redos-discarded 32 (b .len) (b .threads) (b .words) (b .redos) short keys w at below e)

@@ -5,14 +5,14 @@ use mathlib.Core.Bool.{Bool, false, _||_}
 use mathlib.Core.List.{[], _∷_}
 use native.Mathlib.Omega.{arith}
 use lib.Dec.{eqb}
-use Rattle.parts.specs.declared.Lines.{Lines}
+use Rattle.lines.specs.declared.Lines.{Lines}
 use Rattle.parts.specs.Listed.{listed}
-use Rattle.parts.specs.Lines.{lineAt, firstLines}
+use Rattle.lines.specs.Lines.{lineAt, firstLines}
 use Rattle.parts.specs.States.{stateAt}
 use Rattle.model.specs.Lists.{any, upTo}
 use Rattle.model.specs.Machine.{stateIn, wordsOf}
 use Rattle.model.proofs.Records.{any-append}
-use Rattle.logging.proofs.LineWords.{state-below}
+use Rattle.lines.proofs.LineWords.{state-below}
 
 -- a test of numbers listed, as one of their places
 any-listed : (f h : ℕ → Bool) (g : ℕ → ℕ) (n : ℕ) → ((j : ℕ) → j < n → f (g j) ≡ h j) → any f (listed n g) ≡ any h (upTo n)

@@ -8,23 +8,24 @@ use lib.ListN.{length, take, drop, length-map, length-take}
 use Rattle.log.specs.declared.Record.{Record}
 use Rattle.log.specs.Region.{numbers}
 use Rattle.parts.specs.declared.Entry.{Entry}
-use Rattle.parts.specs.declared.RedoBuffer.{RedoBuffer}
-use Rattle.parts.specs.declared.UndoBuffer.{UndoBuffer}
-use Rattle.parts.specs.declared.Lines.{Lines}
+use Rattle.buffers.specs.declared.RedoBuffer.{RedoBuffer}
+use Rattle.buffers.specs.declared.UndoBuffer.{UndoBuffer}
+use Rattle.lines.specs.declared.Lines.{Lines}
 use Rattle.parts.specs.Listed.{listed}
-use Rattle.parts.specs.Arrays.{closed}
-use Rattle.parts.specs.Waiting.{waitingOf, undosWaiting, redosWaiting}
-use Rattle.parts.proofs.Closed.{undos-dropped, redos-dropped}
-use Rattle.parts.proofs.Waiting.{undoAt, WholeKeys, WholeBuffer}
+use Rattle.buffers.specs.Arrays.{removed}
+use Rattle.buffers.specs.Waiting.{waitingOf, undosWaiting, redosWaiting}
+use Rattle.buffers.proofs.Removed.{undos-dropped, redos-dropped}
+use Rattle.buffers.proofs.Waiting.{undoAt, WholeKeys, WholeBuffer}
 use Rattle.parts.proofs.Oldest.{length-oldest}
-use Rattle.parts.proofs.FirstLines.{WholeLines}
+use Rattle.lines.proofs.FirstLines.{WholeLines}
 use Rattle.parts.proofs.Listed.{length-listed}
 use Rattle.model.specs.Lists.{isEmpty}
 use Rattle.model.specs.Machine.{Machine, Memory}
 use Rattle.model.specs.Refusals.{Row, row, numberOf, nothing, noRoom, common}
 use Rattle.model.specs.Steps.{undoRedoRecord, undosLogged, oldestRows}
-use Rattle.line_walks.specs.Walks.{allMarked}
-use Rattle.line_walks.proofs.WordStates.{withStates, logged-lines}
+use Rattle.lines.specs.Walks.{allMarked}
+use Rattle.lines.proofs.WordStates.{withStates}
+use Rattle.buffers.proofs.LoggedLines.{logged-lines}
 use Rattle.model.proofs.Lists.{every-right}
 use Rattle.model.proofs.Rows.{none-apply, number-then, number-more, no-records, oldest-refusals, Room, oldest-room}
 use Rattle.model.proofs.Fit.{Clauses, Fit}
@@ -61,16 +62,16 @@ oldest f n at = map f (take 1 (listed n at))
 pub count-oldest : (f : Entry → Record) (n : ℕ) (at : ℕ → Entry) → length (oldest f n at) ≡ min 1 n
 count-oldest f n at = rw (length-map, length-take, length-listed)
 
--- what waits once the k oldest are dropped, the arrays of the buffer being closed
+-- what waits once the k oldest are dropped, the arrays of the buffer being removed
 module _ (k : ℕ) (ts ws vs : List ℕ) where
-  pub undos-rest : (b : UndoBuffer) (us : List ℕ) → WholeUndos b → k ≤ b .len → b .len ≤ 16 → ts ≡ closed 0 k (b .len) (b .threads)
-      → ws ≡ closed 0 k (b .len) (b .words) → us ≡ closed 0 k (b .len) (b .undos) → vs ≡ closed 0 k (b .len) (b .redos)
+  pub undos-rest : (b : UndoBuffer) (us : List ℕ) → WholeUndos b → k ≤ b .len → b .len ≤ 16 → ts ≡ removed 0 k (b .len) (b .threads)
+      → ws ≡ removed 0 k (b .len) (b .words) → us ≡ removed 0 k (b .len) (b .undos) → vs ≡ removed 0 k (b .len) (b .redos)
       → waitingOf (b .len - k) ts ws us vs ≡ drop k (undosWaiting b)
   undos-rest b us whole some short t w u v =
       rw (t, w, u, v) (undos-dropped 16 k (b .len) (b .threads) (b .words) (b .undos) (b .redos) some short whole)
 
-  pub redos-rest : (b : RedoBuffer) → WholeRedos b → k ≤ b .len → b .len ≤ 32 → ts ≡ closed 0 k (b .len) (b .threads)
-      → ws ≡ closed 0 k (b .len) (b .words) → vs ≡ closed 0 k (b .len) (b .redos) → waitingOf (b .len - k) ts ws [] vs ≡ drop k (redosWaiting b)
+  pub redos-rest : (b : RedoBuffer) → WholeRedos b → k ≤ b .len → b .len ≤ 32 → ts ≡ removed 0 k (b .len) (b .threads)
+      → ws ≡ removed 0 k (b .len) (b .words) → vs ≡ removed 0 k (b .len) (b .redos) → waitingOf (b .len - k) ts ws [] vs ≡ drop k (redosWaiting b)
   redos-rest b whole some short t w v =
       rw (t, w, v) (redos-dropped 32 (b .len) (b .threads) (b .words) (b .redos) short whole k some)
 

@@ -4,7 +4,7 @@ use mathlib.Core.Path.{_≡_, refl}
 use Rattle.model.specs.Consistent.{consistent}
 use Rattle.consistency.specs.StateOf.{linesLent, entriesLent, stateOf}
 use Rattle.consistency.proofs.Lent.{entries-lent, lent-consistent}
-use Rattle.parts.proofs.Waiting.{undoAt, redoAt}
+use Rattle.buffers.proofs.Waiting.{undoAt, redoAt}
 use Rattle.state.specs.declared.Fields.{Fields}
 use Rattle.state.specs.View.{view}
 

@@ -7,7 +7,7 @@ use native.Mathlib.Omega.{arith}
 use borrow.Author.Tests.{ltb-false, leb-false}
 use lib.ListN.{length, getD, set}
 use Rattle.parts.proofs.Oldest.{length-oldest}
-use Rattle.parts.proofs.Waiting.{undoAt}
+use Rattle.buffers.proofs.Waiting.{undoAt}
 use Rattle.model.specs.Machine.{Machine, Memory}
 use Rattle.model.specs.Refusals.{Row, row, idle, held, numberOf, common, unknownThread, unknownWord, notOpen, noRoom}
 use Rattle.model.specs.Step.{store}

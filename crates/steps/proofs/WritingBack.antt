@@ -9,20 +9,20 @@ use lib.Seq.{set-getD}
 use Rattle.log.specs.Stores.{Store, storedUnder}
 use Rattle.log.specs.Region.{slotsOf}
 use Rattle.parts.specs.declared.Line.{Line}
-use Rattle.parts.specs.declared.Lines.{Lines}
-use Rattle.parts.specs.Lines.{lineAt, firstLines, putLine}
+use Rattle.lines.specs.declared.Lines.{Lines}
+use Rattle.lines.specs.Lines.{lineAt, firstLines, putLine}
 use Rattle.parts.proofs.Listed.{length-listed}
-use Rattle.parts.proofs.FirstLines.{WholeLines}
+use Rattle.lines.proofs.FirstLines.{WholeLines}
 use Rattle.model.specs.Machine.{Memory, wordsOf, withLines, changed, dirtyAs}
 use Rattle.model.specs.Plan.{inHome, writeHome, putsOf, written}
 use Rattle.model.specs.Refusals.{numberOf, common}
 use Rattle.model.specs.Steps.{lineRows, lineWrites, writeBackNext}
 use Rattle.model.specs.Step.{writeBack}
-use Rattle.model.proofs.LinesInUse.{first-changed}
+use Rattle.lines.proofs.LinesInUse.{first-changed}
 use Rattle.model.proofs.Performing.{puts-home, written-home, cleared}
 use Rattle.model.proofs.Rows.{none-apply, own-refusals}
-use Rattle.line_walks.specs.Walks.{lineStores}
-use Rattle.line_walks.proofs.LineStores.{stores-there}
+use Rattle.lines.specs.Walks.{lineStores}
+use Rattle.lines.proofs.LineStores.{stores-there}
 use Rattle.state.specs.declared.Fields.{Fields}
 use Rattle.state.specs.declared.Made.{Made}
 use Rattle.state.specs.View.{view}

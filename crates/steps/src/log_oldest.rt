@@ -14,11 +14,11 @@ ghost use Rattle.state.specs.HandedBack.{HandedBack};
 ghost use Rattle.steps.specs.Steps.{LogOf};
 use crate::refusals::no_room;
 use crate::refusals::refused;
-use line_walks::mark_logged;
-use logging::append_redos;
-use logging::append_undos;
-use parts::RedoBuffer;
-use parts::UndoBuffer;
+use buffers::RedoBuffer;
+use buffers::UndoBuffer;
+use buffers::append_redos;
+use buffers::append_undos;
+use lines::mark_logged;
 use state::DONE;
 use state::Fields;
 use state::Made;
@@ -71,10 +71,10 @@ pub fn undo_logged(
     let words = state.undos.words;
     mark_logged(&mut state.lines.states, &words, 1);
     let len = state.undos.len;
-    UndoBuffer::close_threads(&mut state.undos.threads, 0, 1, len);
-    UndoBuffer::close_words(&mut state.undos.words, 0, 1, len);
-    UndoBuffer::close_values(&mut state.undos.undos, 0, 1, len);
-    UndoBuffer::close_values(&mut state.undos.redos, 0, 1, len);
+    UndoBuffer::remove_threads(&mut state.undos.threads, 0, 1, len);
+    UndoBuffer::remove_words(&mut state.undos.words, 0, 1, len);
+    UndoBuffer::remove_values(&mut state.undos.undos, 0, 1, len);
+    UndoBuffer::remove_values(&mut state.undos.redos, 0, 1, len);
     state.undos.len = len - 1;
     state.tail = state.tail + 1;
     Made {
@@ -115,9 +115,9 @@ pub fn redo_logged(
         return cut(working);
     }
     let len = state.redos.len;
-    RedoBuffer::close_threads(&mut state.redos.threads, 0, 1, len);
-    RedoBuffer::close_words(&mut state.redos.words, 0, 1, len);
-    RedoBuffer::close_values(&mut state.redos.redos, 0, 1, len);
+    RedoBuffer::remove_threads(&mut state.redos.threads, 0, 1, len);
+    RedoBuffer::remove_words(&mut state.redos.words, 0, 1, len);
+    RedoBuffer::remove_values(&mut state.redos.redos, 0, 1, len);
     state.redos.len = len - 1;
     state.tail = state.tail + 1;
     Made {

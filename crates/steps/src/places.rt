@@ -2,8 +2,8 @@
 ghost use mathlib.Core.Path.{_≡_};
 ghost use Prim.Native.Nat.{_-_, _≤_, _<_};
 ghost use lib.ListN.{getD, set};
-ghost use Rattle.parts.specs.Arrays.{closed};
-use parts::UndoBuffer;
+ghost use Rattle.buffers.specs.Arrays.{removed};
+use buffers::UndoBuffer;
 
 pub fn put_holder(holders: &mut [u8; 64], line: usize, thread: u8)
     requires { ⌜ line < 64 ⌝ }
@@ -51,30 +51,30 @@ pub fn holder_at(holders: &[u8; 64], line: usize) -> u8
 // An entry added to the undo+redo buffer: of `len` entries the `gone` oldest are taken, and its number is put next after the others.
 pub fn push_thread(threads: &mut [u8; 16], len: usize, gone: usize, thread: u8)
     requires { ⌜ (gone ≤ len) × (len - gone < 16) ⌝ }
-    ensures { λ _. ⌜ now (threads .exit) ≡ set (closed 0 gone len (now (threads .entry))) (len - gone) thread ⌝ }
+    ensures { λ _. ⌜ now (threads .exit) ≡ set (removed 0 gone len (now (threads .entry))) (len - gone) thread ⌝ }
 {
     if gone != 0 {
-        UndoBuffer::close_threads(threads, 0, gone, len);
+        UndoBuffer::remove_threads(threads, 0, gone, len);
     }
     threads[len - gone] = thread;
 }
 
 pub fn push_word(words: &mut [u16; 16], len: usize, gone: usize, word: u16)
     requires { ⌜ (gone ≤ len) × (len - gone < 16) ⌝ }
-    ensures { λ _. ⌜ now (words .exit) ≡ set (closed 0 gone len (now (words .entry))) (len - gone) word ⌝ }
+    ensures { λ _. ⌜ now (words .exit) ≡ set (removed 0 gone len (now (words .entry))) (len - gone) word ⌝ }
 {
     if gone != 0 {
-        UndoBuffer::close_words(words, 0, gone, len);
+        UndoBuffer::remove_words(words, 0, gone, len);
     }
     words[len - gone] = word;
 }
 
 pub fn push_value(values: &mut [u64; 16], len: usize, gone: usize, value: u64)
     requires { ⌜ (gone ≤ len) × (len - gone < 16) ⌝ }
-    ensures { λ _. ⌜ now (values .exit) ≡ set (closed 0 gone len (now (values .entry))) (len - gone) value ⌝ }
+    ensures { λ _. ⌜ now (values .exit) ≡ set (removed 0 gone len (now (values .entry))) (len - gone) value ⌝ }
 {
     if gone != 0 {
-        UndoBuffer::close_values(values, 0, gone, len);
+        UndoBuffer::remove_values(values, 0, gone, len);
     }
     values[len - gone] = value;
 }

@@ -6,13 +6,14 @@ ghost use Prim.Native.Nat.{ℕ, _+_, _/_, _%_, _≤_, _<_};
 ghost use lib.Dec.{eqb};
 ghost use lib.ListN.{getD};
 ghost use Rattle.log.specs.Region.{numbers};
-ghost use Rattle.parts.specs.Lines.{nobody, firstLines};
+ghost use Rattle.parts.specs.Lines.{nobody};
+ghost use Rattle.lines.specs.Lines.{firstLines};
 ghost use Rattle.model.specs.Machine.{Machine, Memory, holderIn};
 ghost use Rattle.model.specs.Refusals.{numberOf, row, idle as idleNumber, held, noRoom, common as commonRows, unknownThread, unknownWord};
 ghost use Rattle.model.specs.Step.{store, stepped};
 ghost use Rattle.model.specs.Steps.{storeLogs, storeNext};
-ghost use Rattle.logging.specs.Progressed.{Stored};
-ghost use Rattle.logging.specs.Records.{undoRecordsOf};
+ghost use Rattle.buffers.specs.Progressed.{Stored};
+ghost use Rattle.buffers.specs.Records.{undoRecordsOf};
 ghost use Rattle.state.specs.View.{view, memory, shown};
 ghost use Rattle.state.specs.HandedBack.{HandedBack};
 ghost use Rattle.steps.specs.Steps.{TakenOut, LogOf};
@@ -27,18 +28,18 @@ use crate::refusals::refuse;
 use crate::refusals::refused;
 use crate::words::holder_of;
 use crate::words::state_of;
-use line_walks::mark;
-use line_walks::mark_logged;
-use logging::append_undos;
-use parts::CLEAN;
-use parts::DIRTY;
+use buffers::RedoBuffer;
+use buffers::UndoBuffer;
+use buffers::append_undos;
+use buffers::find;
+use lines::CLEAN;
+use lines::DIRTY;
+use lines::Lines;
+use lines::U_LOG;
+use lines::UR_LOG;
+use lines::mark;
+use lines::mark_logged;
 use parts::Entry;
-use parts::Lines;
-use parts::RedoBuffer;
-use parts::U_LOG;
-use parts::UR_LOG;
-use parts::UndoBuffer;
-use parts::find;
 use state::DONE;
 use state::Fields;
 use state::HELD;
@@ -65,13 +66,7 @@ pub fn logs_first(states: &[u16; 64], len: usize, word: u16, same: bool) -> usiz
         → r ≡ storeLogs (view s) word same) ⌝ }
 {
     match state_of(states, word) {
-        CLEAN => {
-            if !same & (16 <= len) {
-                1
-            } else {
-                0
-            }
-        }
+        CLEAN => { if !same & (16 <= len) { 1 } else { 0 } }
         _ => 0,
     }
 }
@@ -106,9 +101,9 @@ pub fn next_state(mut state: Fields, entry: Entry, count: usize) -> Fields
             let len = state.redos.len;
             let old = find(&state.redos.words, len, entry.word);
             if old < len {
-                RedoBuffer::close_threads(&mut state.redos.threads, old, 1, len);
-                RedoBuffer::close_words(&mut state.redos.words, old, 1, len);
-                RedoBuffer::close_values(&mut state.redos.redos, old, 1, len);
+                RedoBuffer::remove_threads(&mut state.redos.threads, old, 1, len);
+                RedoBuffer::remove_words(&mut state.redos.words, old, 1, len);
+                RedoBuffer::remove_values(&mut state.redos.redos, old, 1, len);
                 state.redos.len = len - 1;
             }
         }

@@ -1,9 +1,9 @@
 // Words by their lines: the state and the holder of a word.
 ghost use mathlib.Core.Path.{_≡_};
 ghost use Prim.Native.Nat.{ℕ, _/_, _<_};
-ghost use Rattle.parts.specs.Lines.{firstLines};
+ghost use Rattle.lines.specs.Lines.{firstLines};
 ghost use Rattle.model.specs.Machine.{stateIn, holderIn};
-use parts::Lines;
+use lines::Lines;
 
 // The state of a word, by the states of the lines; n is the number of lines in use.
 pub fn state_of(states: &[u16; 64], word: u16) -> u64
@@ -11,7 +11,7 @@ pub fn state_of(states: &[u16; 64], word: u16) -> u64
     ensures { λ r. ⌜ ((ls : Lines) → ls .states ≡ now (states .entry) → (n : ℕ) → word / 8 < n → r ≡ stateIn (firstLines n ls) word) ⌝ }
 {
     let at = (word / 8) as usize;
-    parts::state_at(states[at], (word % 8) as u64)
+    lines::state_at(states[at], (word % 8) as u64)
 }
 
 pub fn holder_of(holders: &[u8; 64], word: u16) -> u8

@@ -7,16 +7,17 @@ use borrow.Author.Needs.{needs}
 use lib.ListN.{length, take}
 use lib.Seq.{take-all}
 use Rattle.parts.specs.declared.Line.{Line}
-use Rattle.parts.specs.declared.Lines.{Lines}
-use Rattle.parts.specs.Lines.{firstLines}
-use Rattle.parts.specs.Waiting.{undosWaiting}
-use Rattle.parts.proofs.FirstLines.{WholeLines}
-use Rattle.parts.proofs.Waiting.{undoAt}
+use Rattle.lines.specs.declared.Lines.{Lines}
+use Rattle.lines.specs.Lines.{firstLines}
+use Rattle.buffers.specs.Waiting.{undosWaiting}
+use Rattle.lines.proofs.FirstLines.{WholeLines}
+use Rattle.buffers.proofs.Waiting.{undoAt}
 use Rattle.parts.proofs.Listed.{length-listed}
 use Rattle.model.specs.Machine.{allLogged}
 use Rattle.model.specs.Steps.{released}
-use Rattle.line_walks.proofs.ReleasedLines.{released-all}
-use Rattle.line_walks.proofs.WordStates.{withStates, whole-marked, logged-lines}
+use Rattle.lines.proofs.ReleasedLines.{released-all}
+use Rattle.lines.proofs.WordStates.{withStates, whole-marked}
+use Rattle.buffers.proofs.LoggedLines.{logged-lines}
 use Rattle.state.specs.View.{memory}
 use Rattle.steps.proofs.Appending.{append-done, append-cut}
 use Rattle.steps.proofs.Commits.{freed, commit-next, commit-appends, commit-appended}

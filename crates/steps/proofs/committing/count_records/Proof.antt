@@ -3,9 +3,9 @@ use Prim.Native.Nat.{_*_, _/_, _≤_, min}
 use mathlib.Core.List.{[]}
 use native.Mathlib.Omega.{arith}
 use borrow.Author.Needs.{needs}
-use Rattle.parts.specs.Lines.{firstLines}
-use Rattle.logging.specs.Newest.{linesOf}
-use Rattle.logging.proofs.NewestWords.{newest-few}
+use Rattle.lines.specs.Lines.{firstLines}
+use Rattle.lines.specs.Newest.{linesOf}
+use Rattle.lines.proofs.NewestWords.{newest-few}
 use Rattle.steps.proofs.Commits.{commit-count}
 use Rattle.steps.proofs.committing.count_records.Statement.{statement}
 use Rattle.steps.proofs.committing.count_records.Tie as tie

@@ -5,13 +5,13 @@ use mathlib.Core.Logic.{⊎-elim}
 use native.Mathlib.Omega.{arith}
 use lib.ListN.{getD, set}
 use lib.Seq.{set-getD}
-use Rattle.parts.proofs.FirstLines.{WholeLines}
+use Rattle.lines.proofs.FirstLines.{WholeLines}
 use Rattle.model.specs.Machine.{Memory}
 use Rattle.model.specs.Refusals.{numberOf}
 use Rattle.model.specs.Steps.{redoRecords, lacking, evictRows}
 use Rattle.model.specs.Step.{evict}
 use Rattle.model.proofs.Fit.{Fit}
-use Rattle.logging.proofs.Guards.{redos-appended}
+use Rattle.buffers.proofs.Guards.{redos-appended}
 use Rattle.state.specs.View.{view, memory}
 use Rattle.steps.proofs.Outcome.{common-fit, refused-way}
 use Rattle.steps.proofs.Appending.{appended-of, append-cut}

@@ -6,14 +6,14 @@ use native.Mathlib.Omega.{arith}
 use borrow.Author.Needs.{needs}
 use lib.ListN.{drop}
 use Rattle.log.specs.declared.Record.{Record}
-use Rattle.parts.specs.declared.RedoBuffer.{RedoBuffer}
-use Rattle.parts.specs.Waiting.{redosWaiting}
-use Rattle.parts.proofs.Waiting.{redoAt}
+use Rattle.buffers.specs.declared.RedoBuffer.{RedoBuffer}
+use Rattle.buffers.specs.Waiting.{redosWaiting}
+use Rattle.buffers.proofs.Waiting.{redoAt}
 use Rattle.model.specs.Machine.{Memory}
 use Rattle.model.specs.Refusals.{numberOf}
 use Rattle.model.specs.Steps.{redoRecord, redosLogged, oldestRows}
 use Rattle.model.specs.Step.{logRedo}
-use Rattle.logging.proofs.Guards.{redos-appended}
+use Rattle.buffers.proofs.Guards.{redos-appended}
 use Rattle.state.specs.declared.Fields.{Fields}
 use Rattle.state.specs.View.{view, memory}
 use Rattle.steps.proofs.Outcome.{refused-way}
@@ -104,14 +104,14 @@ returns-2 c =
     append-cut (appends begun) (s .args .supply) 1 (ended .cut .result) (ended .cut .last .0) (e .last .0) (e .result) (k .one)
     (ended .before .before .if2 .taken) (redos-appended 1 (s .args .t1 .redos) (k .short) (e .ensures)) (ended .cut .ensures .0) (ended .cut .ensures .1)
 
-close-threads-requires : tie.Need-close-threads-requires
-close-threads-requires c κs = search needs
+remove-threads-requires : tie.Need-remove-threads-requires
+remove-threads-requires c κs = search needs
 
-close-words-requires : tie.Need-close-words-requires
-close-words-requires c κs = search needs
+remove-words-requires : tie.Need-remove-words-requires
+remove-words-requires c κs = search needs
 
-close-values-requires : tie.Need-close-values-requires
-close-values-requires c κs = search needs
+remove-values-requires : tie.Need-remove-values-requires
+remove-values-requires c κs = search needs
 
 sub-state : tie.Need-sub-state
 sub-state c =
@@ -128,9 +128,9 @@ same-length-3 c = search needs
 
 returns-3 : tie.Need-returns-3
 returns-3 c =
-    let threads = c .before .before .before .before .before .close-threads in
-    let words = c .before .before .before .close-words in
-    let values = c .before .close-values in
+    let threads = c .before .before .before .before .before .remove-threads in
+    let words = c .before .before .before .remove-words in
+    let values = c .before .remove-values in
     let taken = c .before .before .before .before .before .before .before in
     let appended = taken .before .before .before in
     let begun = passed appended in
@@ -159,9 +159,9 @@ redo-logged-spec =
     same-length
     same-length-2
     returns-2
-    close-threads-requires
-    close-words-requires
-    close-values-requires
+    remove-threads-requires
+    remove-words-requires
+    remove-values-requires
     sub-state
     add-state
     same-length-3

@@ -6,15 +6,15 @@ use native.Mathlib.Omega.{arith}
 use borrow.Author.Needs.{needs}
 use lib.ListN.{drop}
 use Rattle.log.specs.declared.Record.{Record}
-use Rattle.parts.specs.declared.UndoBuffer.{UndoBuffer}
-use Rattle.parts.specs.Waiting.{undosWaiting}
-use Rattle.parts.proofs.FirstLines.{WholeLines}
-use Rattle.parts.proofs.Waiting.{undoAt}
+use Rattle.buffers.specs.declared.UndoBuffer.{UndoBuffer}
+use Rattle.buffers.specs.Waiting.{undosWaiting}
+use Rattle.lines.proofs.FirstLines.{WholeLines}
+use Rattle.buffers.proofs.Waiting.{undoAt}
 use Rattle.model.specs.Machine.{Memory}
 use Rattle.model.specs.Refusals.{numberOf}
 use Rattle.model.specs.Steps.{undoRedoRecord, undosLogged, oldestRows}
 use Rattle.model.specs.Step.{logUndo}
-use Rattle.logging.proofs.Guards.{undos-appended}
+use Rattle.buffers.proofs.Guards.{undos-appended}
 use Rattle.state.specs.declared.Fields.{Fields}
 use Rattle.state.specs.View.{view, memory}
 use Rattle.steps.proofs.Outcome.{refused-way}
@@ -111,17 +111,17 @@ returns-2 c =
 mark-logged-requires : tie.Need-mark-logged-requires
 mark-logged-requires c κs = search needs
 
-close-threads-requires : tie.Need-close-threads-requires
-close-threads-requires c κs = search needs
+remove-threads-requires : tie.Need-remove-threads-requires
+remove-threads-requires c κs = search needs
 
-close-words-requires : tie.Need-close-words-requires
-close-words-requires c κs = search needs
+remove-words-requires : tie.Need-remove-words-requires
+remove-words-requires c κs = search needs
 
-close-values-requires : tie.Need-close-values-requires
-close-values-requires c κs = search needs
+remove-values-requires : tie.Need-remove-values-requires
+remove-values-requires c κs = search needs
 
-close-values-requires-2 : tie.Need-close-values-requires-2
-close-values-requires-2 c κs = search needs
+remove-values-requires-2 : tie.Need-remove-values-requires-2
+remove-values-requires-2 c κs = search needs
 
 sub-state : tie.Need-sub-state
 sub-state c =
@@ -140,10 +140,10 @@ same-length-3 c = search needs
 
 returns-3 : tie.Need-returns-3
 returns-3 c =
-    let redos = c .before .close-values2 in
-    let undos = c .before .before .before .close-values in
-    let words = c .before .before .before .before .before .close-words in
-    let threads = c .before .before .before .before .before .before .before .close-threads in
+    let redos = c .before .remove-values2 in
+    let undos = c .before .before .before .remove-values in
+    let words = c .before .before .before .before .before .remove-words in
+    let threads = c .before .before .before .before .before .before .before .remove-threads in
     let marked = c .before .before .before .before .before .before .before .before .before .mark-logged in
     let taken = c .before .before .before .before .before .before .before .before .before .before .before .before .before in
     let appended = taken .before .before .before in
@@ -183,10 +183,10 @@ undo-logged-spec =
     same-length-2
     returns-2
     mark-logged-requires
-    close-threads-requires
-    close-words-requires
-    close-values-requires
-    close-values-requires-2
+    remove-threads-requires
+    remove-words-requires
+    remove-values-requires
+    remove-values-requires-2
     sub-state
     add-state
     same-length-3

@@ -5,12 +5,12 @@ use mathlib.Core.Logic.{⊎-elim}
 use mathlib.Core.List.{List}
 use borrow.Author.Needs.{needs}
 use lib.ListN.{set}
-use Rattle.line_walks.proofs.Refilled.{none-gone}
+use Rattle.buffers.proofs.Refilled.{none-gone}
 use Rattle.steps.proofs.places.push_thread.Statement.{statement}
 use Rattle.steps.proofs.places.push_thread.Tie as tie
 
-close-threads-requires : tie.Need-close-threads-requires
-close-threads-requires c κs = search needs
+remove-threads-requires : tie.Need-remove-threads-requires
+remove-threads-requires c κs = search needs
 
 sub-threads : tie.Need-sub-threads
 sub-threads c = search needs
@@ -25,4 +25,4 @@ returns c =
     (⊎-elim (λ u. u .3 ∙ u .2 .ensures) (λ u. none-gone (a .gone) (a .len) (a .threads .now) (c .if1 .threads) (u .0 .left) (u .1)) (c .if1 .came))
 
 pub push-thread-spec : {M : Type 1} → statement M
-push-thread-spec = tie.close (tie.spec close-threads-requires sub-threads element-write-threads returns)
+push-thread-spec = tie.close (tie.spec remove-threads-requires sub-threads element-write-threads returns)

@@ -5,12 +5,12 @@ use mathlib.Core.Logic.{⊎-elim}
 use mathlib.Core.List.{List}
 use borrow.Author.Needs.{needs}
 use lib.ListN.{set}
-use Rattle.line_walks.proofs.Refilled.{none-gone}
+use Rattle.buffers.proofs.Refilled.{none-gone}
 use Rattle.steps.proofs.places.push_value.Statement.{statement}
 use Rattle.steps.proofs.places.push_value.Tie as tie
 
-close-values-requires : tie.Need-close-values-requires
-close-values-requires c κs = search needs
+remove-values-requires : tie.Need-remove-values-requires
+remove-values-requires c κs = search needs
 
 sub-values : tie.Need-sub-values
 sub-values c = search needs
@@ -28,4 +28,4 @@ returns c =
     (⊎-elim (λ u. u .3 ∙ u .2 .ensures) (λ u. none-gone (a .gone) (a .len) (a .values .now) (c .if1 .values) (u .0 .left) (u .1)) (c .if1 .came))
 
 pub push-value-spec : {M : Type 1} → statement M
-push-value-spec = tie.close (tie.spec close-values-requires sub-values mul-values element-write-values returns)
+push-value-spec = tie.close (tie.spec remove-values-requires sub-values mul-values element-write-values returns)

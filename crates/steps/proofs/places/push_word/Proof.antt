@@ -5,12 +5,12 @@ use mathlib.Core.Logic.{⊎-elim}
 use mathlib.Core.List.{List}
 use borrow.Author.Needs.{needs}
 use lib.ListN.{set}
-use Rattle.line_walks.proofs.Refilled.{none-gone}
+use Rattle.buffers.proofs.Refilled.{none-gone}
 use Rattle.steps.proofs.places.push_word.Statement.{statement}
 use Rattle.steps.proofs.places.push_word.Tie as tie
 
-close-words-requires : tie.Need-close-words-requires
-close-words-requires c κs = search needs
+remove-words-requires : tie.Need-remove-words-requires
+remove-words-requires c κs = search needs
 
 sub-words : tie.Need-sub-words
 sub-words c = search needs
@@ -28,4 +28,4 @@ returns c =
     (⊎-elim (λ u. u .3 ∙ u .2 .ensures) (λ u. none-gone (a .gone) (a .len) (a .words .now) (c .if1 .words) (u .0 .left) (u .1)) (c .if1 .came))
 
 pub push-word-spec : {M : Type 1} → statement M
-push-word-spec = tie.close (tie.spec close-words-requires sub-words mul-words element-write-words returns)
+push-word-spec = tie.close (tie.spec remove-words-requires sub-words mul-words element-write-words returns)

@@ -4,7 +4,7 @@ use mathlib.Core.Path.{_≡_, sym, _∙_}
 use mathlib.Core.Bool.{true, false}
 use lib.ListN.{length}
 use borrow.Author.Needs.{needs}
-use Rattle.parts.specs.Waiting.{undosWaiting}
+use Rattle.buffers.specs.Waiting.{undosWaiting}
 use Rattle.model.specs.Machine.{stateIn}
 use Rattle.state.specs.declared.Fields.{Fields}
 use Rattle.state.specs.View.{view}

@@ -8,21 +8,22 @@ use mathlib.Core.List.{List, []}
 use native.Mathlib.Omega.{arith}
 use lib.Dec.{eqb}
 use lib.ListN.{getD}
-use Rattle.parts.specs.declared.UndoBuffer.{UndoBuffer}
+use Rattle.buffers.specs.declared.UndoBuffer.{UndoBuffer}
 use Rattle.parts.specs.declared.Entry.{Entry}
-use Rattle.parts.specs.declared.Lines.{Lines}
-use Rattle.parts.specs.Lines.{firstLines}
-use Rattle.parts.specs.Arrays.{closed}
-use Rattle.parts.specs.Waiting.{undosWaiting, redosWaiting, discarded, amended, placeOf}
-use Rattle.parts.proofs.FirstLines.{WholeLines}
-use Rattle.parts.proofs.Waiting.{undoAt, redoAt}
-use Rattle.parts.proofs.Closed.{undos-dropped, whole-closed}
-use Rattle.parts.proofs.Places.{discarded-none, amended-at, amended-none}
+use Rattle.lines.specs.declared.Lines.{Lines}
+use Rattle.lines.specs.Lines.{firstLines}
+use Rattle.buffers.specs.Arrays.{removed}
+use Rattle.buffers.specs.Waiting.{undosWaiting, redosWaiting}
+use Rattle.parts.specs.Entries.{discarded, amended, indexOf}
+use Rattle.lines.proofs.FirstLines.{WholeLines}
+use Rattle.buffers.proofs.Waiting.{undoAt, redoAt}
+use Rattle.buffers.proofs.Removed.{undos-dropped, whole-closed}
+use Rattle.buffers.proofs.Places.{discarded-none, amended-at, amended-none}
 use Rattle.model.specs.Machine.{Memory, changed, heldBy, dirtyAs, stateIn, withLines, withUndoRedo, withRedo}
 use Rattle.model.specs.Steps.{undosLogged, storeNext}
 use Rattle.state.specs.declared.Fields.{Fields}
 use Rattle.state.specs.View.{view}
-use Rattle.line_walks.proofs.WordStates.{withStates, first-marked, whole-marked}
+use Rattle.lines.proofs.WordStates.{withStates, first-marked, whole-marked}
 use Rattle.steps.proofs.LoggingOldest.{WholeUndos, WholeRedos, undosGone, undos-gone}
 use Rattle.steps.proofs.Filing.{logs-most, logs-other, none-logged, logs-room, undos-length, next-same, next-other}
 use Rattle.steps.proofs.Filing.{held-lines, dirty-lines, whole-dirty, place-found, redos-kept, Ready}
@@ -149,11 +150,11 @@ module _ (c : tie.After-mark-logged) where
   abbrev rest : UndoBuffer
   rest =
       record {
-        undos = closed 0 count (old .len) (old .undos);
-        redos = closed 0 count (old .len) (old .redos);
+        undos = removed 0 count (old .len) (old .undos);
+        redos = removed 0 count (old .len) (old .redos);
         len = old .len - count;
-        threads = closed 0 count (old .len) (old .threads);
-        words = closed 0 count (old .len) (old .words);
+        threads = removed 0 count (old .len) (old .threads);
+        words = removed 0 count (old .len) (old .words);
       }
 
   abbrev room : Fields
@@ -213,14 +214,14 @@ mark-requires c κs = search needs
 find-requires : tie.Need-find-requires
 find-requires c κs = search needs
 
-close-threads-requires : tie.Need-close-threads-requires
-close-threads-requires c κs = search needs
+remove-threads-requires : tie.Need-remove-threads-requires
+remove-threads-requires c κs = search needs
 
-close-words-requires : tie.Need-close-words-requires
-close-words-requires c κs = search needs
+remove-words-requires : tie.Need-remove-words-requires
+remove-words-requires c κs = search needs
 
-close-values-requires : tie.Need-close-values-requires
-close-values-requires c κs = search needs
+remove-values-requires : tie.Need-remove-values-requires
+remove-values-requires c κs = search needs
 
 sub-state-2 : tie.Need-sub-state-2
 sub-state-2 c = search needs
@@ -282,7 +283,7 @@ module _ (c : tie.After-find) where
   abbrev at : tie.After-put-flag
   at = here (made filed)
 
-  redo-place : c .find .result ≡ placeOf (e at .word) (redosWaiting (s at .redos))
+  redo-place : c .find .result ≡ indexOf (e at .word) (redosWaiting (s at .redos))
   redo-place =
       let d = s at .redos in
       place-found (e at .word) (d .len) 32 (c .find .result) (d .threads) (d .words) [] (d .redos) (whole-keys (start at) .words) (limits (made filed) .1 .0)
@@ -290,9 +291,9 @@ module _ (c : tie.After-find) where
 
 returns-2 : tie.Need-returns-2
 returns-2 c mem was =
-    let threads = c .before .before .before .before .before .close-threads in
-    let words = c .before .before .before .close-words in
-    let values = c .before .close-values in
+    let threads = c .before .before .before .before .before .remove-threads in
+    let words = c .before .before .before .remove-words in
+    let values = c .before .remove-values in
     let found = c .before .before .before .before .before .before .before .before in
     let d = s (at found) .redos in
     first-filed (filed found) mem was _
@@ -312,7 +313,7 @@ module _ (c : tie.After-find2) where
   abbrev known : tie.After-put-flag
   known = c .before .before .before .before .before
 
-  place : c .find2 .result ≡ placeOf (e known .word) (undosWaiting (s known .undos))
+  place : c .find2 .result ≡ indexOf (e known .word) (undosWaiting (s known .undos))
   place =
       let d = s known .undos in
       let p = start known .pre in
@@ -392,9 +393,9 @@ next-state-spec =
     add-state-2
     mark-requires
     find-requires
-    close-threads-requires
-    close-words-requires
-    close-values-requires
+    remove-threads-requires
+    remove-words-requires
+    remove-values-requires
     sub-state-2
     find-requires-2
     put-value-requires

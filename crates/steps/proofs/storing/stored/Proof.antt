@@ -13,8 +13,8 @@ use Rattle.model.specs.Machine.{Machine, Memory}
 use Rattle.model.specs.Refusals.{numberOf}
 use Rattle.model.specs.Steps.{storeLogs, storeRecords, storeRows, undoRecords}
 use Rattle.model.specs.Step.{store}
-use Rattle.logging.proofs.Appending.{Appended, appended-none, appended-length}
-use Rattle.logging.proofs.Guards.{undos-appended}
+use Rattle.buffers.proofs.Appending.{Appended, appended-none, appended-length}
+use Rattle.buffers.proofs.Guards.{undos-appended}
 use Rattle.state.specs.View.{view, memory}
 use Rattle.steps.specs.Steps.{TakenOut}
 use Rattle.steps.proofs.Outcome.{refused-way}

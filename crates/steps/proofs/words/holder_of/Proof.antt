@@ -5,7 +5,7 @@ use mathlib.Core.List.{List}
 use lib.ListN.{getD}
 use Rattle.parts.specs.declared.Line.{Line}
 use Rattle.model.specs.Machine.{holderIn}
-use Rattle.model.proofs.LinesInUse.{line-in-use}
+use Rattle.lines.proofs.LinesInUse.{line-in-use}
 use borrow.Author.Needs.{needs}
 use Rattle.steps.proofs.words.holder_of.Statement.{statement}
 use Rattle.steps.proofs.words.holder_of.Tie as tie

@@ -6,7 +6,7 @@ use lib.ListN.{getD}
 use Rattle.parts.specs.declared.Line.{Line}
 use Rattle.parts.specs.States.{stateAt}
 use Rattle.model.specs.Machine.{stateIn}
-use Rattle.model.proofs.LinesInUse.{line-in-use}
+use Rattle.lines.proofs.LinesInUse.{line-in-use}
 use borrow.Author.Needs.{needs}
 use Rattle.steps.proofs.words.state_of.Statement.{statement}
 use Rattle.steps.proofs.words.state_of.Tie as tie

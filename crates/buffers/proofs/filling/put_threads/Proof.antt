@@ -1,0 +1,89 @@
+-- `put_threads` meets its contract. Before each turn those of the words passed are put.
+use Prim.Native.Nat.{_-_, _≤_, _<_}
+use mathlib.Core.Path.{_≡_, sym, _∙_}
+use mathlib.Core.Logic.{⊎-elim}
+use native.Mathlib.Omega.{arith}
+use borrow.Author.Needs.{needs}
+use lib.Dec.{eqb}
+use lib.ListN.{length}
+use Rattle.parts.specs.States.{stateAt, ULog}
+use Rattle.buffers.proofs.Refilled.{has-place, Placing, placing-none, placing-put, placing-not}
+use Rattle.buffers.proofs.filling.put_threads.Statement.{statement}
+use Rattle.buffers.proofs.filling.put_threads.Tie as tie
+
+abbrev Inv-loop : tie.InvT-loop
+Inv-loop threads₀ from states holder at₀ j₀ threads at j =
+    (j ≤ 8) × (length threads₀ ≡ 32 → Placing (λ _. holder) states from threads₀ threads at j)
+
+abbrev μ-loop : tie.MeasureT-loop
+μ-loop threads₀ from states holder at₀ j₀ threads at j = 8 - j
+
+least-requires : tie.Need-least-requires Inv-loop μ-loop
+least-requires c κs = search needs
+
+loop-holds : tie.Need-loop-holds Inv-loop μ-loop
+loop-holds c =
+    let a = c .before .args in
+    (omega arith, λ whole. rw (c .least .ensures) (placing-none (λ _. a .holder) (a .states) (a .from) (a .threads .now) whole))
+
+adds-requires : tie.Need-adds-requires Inv-loop μ-loop
+adds-requires c κs = search needs
+
+-- there is a place where one is put
+place : (c : tie.Then1 Inv-loop μ-loop) → c .before .before .before .loop .at < 32
+place c =
+    let l = c .before .before .before .loop in
+    let a = c .before .before .before .before .before .args in
+    has-place (eqb (stateAt (a .states) (l .j)) ULog) (l .at) (sym (c .before .adds .ensures) ∙ c .if1 .taken)
+
+element-write-threads : tie.Need-element-write-threads Inv-loop μ-loop
+element-write-threads c = place c
+
+add-at : tie.Need-add-at Inv-loop μ-loop
+add-at c = let h = place c in omega arith
+
+add-j : tie.Need-add-j Inv-loop μ-loop
+add-j c = omega arith
+
+loop-less : tie.Need-loop-less Inv-loop μ-loop
+loop-less c = omega arith
+
+loop-again : tie.Need-loop-again Inv-loop μ-loop
+loop-again c =
+    let l = c .before .before .before .loop in
+    let a = c .before .before .before .before .before .args in
+    let test = sym (c .before .adds .ensures) in (
+      omega arith,
+      λ whole.
+          let p = l .inv .1 whole in
+          ⊎-elim
+          (λ u.
+          rw (u .1, u .2)
+          (placing-put (λ _. a .holder) (a .states) (a .from) (a .threads .now) (l .threads) (l .at) (l .j) p (test ∙ u .0 .taken)))
+          (λ u.
+          rw (u .1, u .2)
+          (placing-not (λ _. a .holder) (a .states) (a .from) (a .threads .now) (l .threads) (l .at) (l .j) p (test ∙ u .0 .left)))
+          (c .if1 .came),
+    )
+
+returns : tie.Need-returns Inv-loop μ-loop
+returns c whole =
+    let l = c .before .loop in
+    let e : l .j ≡ 8 = omega arith in
+    rw e at (l .inv .1 whole .put)
+
+pub put-threads-spec : {M : Type 1} → statement M
+put-threads-spec =
+    tie.close
+    (tie.spec
+    Inv-loop
+    μ-loop
+    least-requires
+    loop-holds
+    adds-requires
+    element-write-threads
+    add-at
+    add-j
+    loop-less
+    loop-again
+    returns)

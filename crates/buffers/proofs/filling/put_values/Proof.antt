@@ -1,0 +1,110 @@
+-- `put_values` meets its contract. Before each turn those of the words passed are put.
+use Prim.Native.Nat.{_-_, _≤_, _<_}
+use mathlib.Core.Path.{_≡_, sym, _∙_}
+use mathlib.Core.Logic.{⊎-elim}
+use native.Mathlib.Omega.{arith}
+use borrow.Author.Needs.{needs}
+use lib.Dec.{eqb}
+use lib.ListN.{length}
+use Rattle.parts.specs.States.{stateAt, ULog}
+use Rattle.buffers.specs.Filled.{valuesIn}
+use Rattle.buffers.proofs.Refilled.{has-place, Placing, placing-none, placing-put, placing-not}
+use Rattle.buffers.proofs.filling.put_values.Statement.{statement}
+use Rattle.buffers.proofs.filling.put_values.Tie as tie
+
+abbrev Inv-loop : tie.InvT-loop
+Inv-loop values₀ from states working line at₀ j₀ values at j =
+    (j ≤ 8) × (length values₀ ≡ 32 → Placing (valuesIn working line) states from values₀ values at j)
+
+abbrev μ-loop : tie.MeasureT-loop
+μ-loop values₀ from states working line at₀ j₀ values at j = 8 - j
+
+least-requires : tie.Need-least-requires Inv-loop μ-loop
+least-requires c κs = search needs
+
+loop-holds : tie.Need-loop-holds Inv-loop μ-loop
+loop-holds c =
+    let a = c .before .before .args in
+    (omega arith, λ whole. rw (c .least .ensures) (placing-none (valuesIn (a .working .now) (a .line)) (a .states) (a .from) (a .values .now) whole))
+
+adds-requires : tie.Need-adds-requires Inv-loop μ-loop
+adds-requires c κs = search needs
+
+-- there is a place where one is put
+place : (c : tie.Then1 Inv-loop μ-loop) → c .before .before .before .loop .at < 32
+place c =
+    let l = c .before .before .before .loop in
+    let a = c .before .before .before .before .before .before .args in
+    has-place (eqb (stateAt (a .states) (l .j)) ULog) (l .at) (sym (c .before .adds .ensures) ∙ c .if1 .taken)
+
+mul-values : tie.Need-mul-values Inv-loop μ-loop
+mul-values c = omega arith
+
+add-values : tie.Need-add-values Inv-loop μ-loop
+add-values c = omega arith
+
+mul-values-2 : tie.Need-mul-values-2 Inv-loop μ-loop
+mul-values-2 c = omega arith
+
+shared-slice-read-values : tie.Need-shared-slice-read-values Inv-loop μ-loop
+shared-slice-read-values c = omega arith
+
+mul-values-3 : tie.Need-mul-values-3 Inv-loop μ-loop
+mul-values-3 c = let h = place (c .before) in omega arith
+
+element-write-values : tie.Need-element-write-values Inv-loop μ-loop
+element-write-values c = place (c .before)
+
+add-at : tie.Need-add-at Inv-loop μ-loop
+add-at c = let h = place (c .before) in omega arith
+
+add-j : tie.Need-add-j Inv-loop μ-loop
+add-j c = omega arith
+
+loop-less : tie.Need-loop-less Inv-loop μ-loop
+loop-less c = omega arith
+
+loop-again : tie.Need-loop-again Inv-loop μ-loop
+loop-again c =
+    let l = c .before .before .before .loop in
+    let a = c .before .before .before .before .before .before .args in
+    let test = sym (c .before .adds .ensures) in (
+      omega arith,
+      λ whole.
+          let p = l .inv .1 whole in
+          ⊎-elim
+          (λ u.
+          rw (u .2, u .3)
+          (placing-put (valuesIn (a .working .now) (a .line)) (a .states) (a .from) (a .values .now) (l .values) (l .at) (l .j) p (test ∙ u .0 .taken)))
+          (λ u.
+          rw (u .1, u .2)
+          (placing-not (valuesIn (a .working .now) (a .line)) (a .states) (a .from) (a .values .now) (l .values) (l .at) (l .j) p (test ∙ u .0 .left)))
+          (c .if1 .came),
+    )
+
+returns : tie.Need-returns Inv-loop μ-loop
+returns c whole =
+    let l = c .before .loop in
+    let e : l .j ≡ 8 = omega arith in
+    rw e at (l .inv .1 whole .put)
+
+pub put-values-spec : {M : Type 1} → statement M
+put-values-spec =
+    tie.close
+    (tie.spec
+    Inv-loop
+    μ-loop
+    least-requires
+    loop-holds
+    adds-requires
+    mul-values
+    add-values
+    mul-values-2
+    shared-slice-read-values
+    mul-values-3
+    element-write-values
+    add-at
+    add-j
+    loop-less
+    loop-again
+    returns)

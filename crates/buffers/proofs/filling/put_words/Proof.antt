@@ -1,0 +1,106 @@
+-- `put_words` meets its contract. Before each turn those of the words passed are put.
+use Prim.Native.Nat.{_-_, _≤_, _<_}
+use mathlib.Core.Path.{_≡_, sym, _∙_}
+use mathlib.Core.Logic.{⊎-elim}
+use native.Mathlib.Omega.{arith}
+use borrow.Author.Needs.{needs}
+use lib.Dec.{eqb}
+use lib.ListN.{length}
+use Rattle.parts.specs.States.{stateAt, ULog}
+use Rattle.buffers.specs.Filled.{wordsIn}
+use Rattle.buffers.proofs.Refilled.{has-place, Placing, placing-none, placing-put, placing-not}
+use Rattle.buffers.proofs.filling.put_words.Statement.{statement}
+use Rattle.buffers.proofs.filling.put_words.Tie as tie
+
+abbrev Inv-loop : tie.InvT-loop
+Inv-loop words₀ from states line at₀ j₀ words at j =
+    (j ≤ 8) × (length words₀ ≡ 32 → Placing (wordsIn line) states from words₀ words at j)
+
+abbrev μ-loop : tie.MeasureT-loop
+μ-loop words₀ from states line at₀ j₀ words at j = 8 - j
+
+least-requires : tie.Need-least-requires Inv-loop μ-loop
+least-requires c κs = search needs
+
+loop-holds : tie.Need-loop-holds Inv-loop μ-loop
+loop-holds c =
+    let a = c .before .args in
+    (omega arith, λ whole. rw (c .least .ensures) (placing-none (wordsIn (a .line)) (a .states) (a .from) (a .words .now) whole))
+
+adds-requires : tie.Need-adds-requires Inv-loop μ-loop
+adds-requires c κs = search needs
+
+-- there is a place where one is put
+place : (c : tie.Then1 Inv-loop μ-loop) → c .before .before .before .loop .at < 32
+place c =
+    let l = c .before .before .before .loop in
+    let a = c .before .before .before .before .before .args in
+    has-place (eqb (stateAt (a .states) (l .j)) ULog) (l .at) (sym (c .before .adds .ensures) ∙ c .if1 .taken)
+
+mul-words : tie.Need-mul-words Inv-loop μ-loop
+mul-words c = omega arith
+
+add-words : tie.Need-add-words Inv-loop μ-loop
+add-words c = omega arith
+
+cast-words : tie.Need-cast-words Inv-loop μ-loop
+cast-words c = omega arith
+
+mul-words-2 : tie.Need-mul-words-2 Inv-loop μ-loop
+mul-words-2 c = let h = place c in omega arith
+
+element-write-words : tie.Need-element-write-words Inv-loop μ-loop
+element-write-words c = place c
+
+add-at : tie.Need-add-at Inv-loop μ-loop
+add-at c = let h = place c in omega arith
+
+add-j : tie.Need-add-j Inv-loop μ-loop
+add-j c = omega arith
+
+loop-less : tie.Need-loop-less Inv-loop μ-loop
+loop-less c = omega arith
+
+loop-again : tie.Need-loop-again Inv-loop μ-loop
+loop-again c =
+    let l = c .before .before .before .loop in
+    let a = c .before .before .before .before .before .args in
+    let test = sym (c .before .adds .ensures) in (
+      omega arith,
+      λ whole.
+          let p = l .inv .1 whole in
+          ⊎-elim
+          (λ u.
+          rw (u .1, u .2)
+          (placing-put (wordsIn (a .line)) (a .states) (a .from) (a .words .now) (l .words) (l .at) (l .j) p (test ∙ u .0 .taken)))
+          (λ u.
+          rw (u .1, u .2)
+          (placing-not (wordsIn (a .line)) (a .states) (a .from) (a .words .now) (l .words) (l .at) (l .j) p (test ∙ u .0 .left)))
+          (c .if1 .came),
+    )
+
+returns : tie.Need-returns Inv-loop μ-loop
+returns c whole =
+    let l = c .before .loop in
+    let e : l .j ≡ 8 = omega arith in
+    rw e at (l .inv .1 whole .put)
+
+pub put-words-spec : {M : Type 1} → statement M
+put-words-spec =
+    tie.close
+    (tie.spec
+    Inv-loop
+    μ-loop
+    least-requires
+    loop-holds
+    adds-requires
+    mul-words
+    add-words
+    cast-words
+    mul-words-2
+    element-write-words
+    add-at
+    add-j
+    loop-less
+    loop-again
+    returns)

@@ -1,0 +1,85 @@
+-- `find` meets its contract. The word's place, looked for from `i` on, is its place among all the entries.
+use Prim.Native.Nat.{ℕ, _+_, _-_, _≤_}
+use mathlib.Core.Path.{_≡_}
+use mathlib.Core.List.{List}
+use native.Mathlib.Omega.{arith}
+use borrow.Author.Needs.{needs}
+use lib.ListN.{drop}
+use Rattle.buffers.specs.Waiting.{entryOf, waitingOf}
+use Rattle.parts.specs.Entries.{indexOf}
+use Rattle.buffers.proofs.Places.{place-here, place-next, place-none}
+use Rattle.buffers.proofs.finding.find.Statement.{statement}
+use Rattle.buffers.proofs.finding.find.Tie as tie
+
+abbrev Inv-loop : tie.InvT-loop
+Inv-loop words len word end i₀ i =
+    (i ≤ end) × ((ts us rs : List ℕ) → i + indexOf word (drop i (waitingOf end ts words us rs)) ≡ indexOf word (waitingOf end ts words us rs))
+
+abbrev μ-loop : tie.MeasureT-loop
+μ-loop words len word end i₀ i = end - i
+
+least-requires : tie.Need-least-requires Inv-loop μ-loop
+least-requires c κs = search needs
+
+loop-holds : tie.Need-loop-holds Inv-loop μ-loop
+loop-holds c = (omega arith, λ ts us rs. omega arith)
+
+mul-if1 : tie.Need-mul-if1 Inv-loop μ-loop
+mul-if1 c = omega arith
+
+shared-slice-read-if1 : tie.Need-shared-slice-read-if1 Inv-loop μ-loop
+shared-slice-read-if1 c = omega arith
+
+returns : tie.Need-returns Inv-loop μ-loop
+returns c ts us rs =
+    let l = c .before .before .before .loop in
+    let least = c .before .before .before .before .least in
+    let a = c .before .before .before .before .before .before .args in
+    let e = l .inv .1 ts us rs in
+    let here = place-here (a .word) (least .result) (entryOf ts (a .words .now) us rs) (l .i) (omega arith) (c .if1 .taken) in
+    let found : l .i ≡ indexOf (a .word) (waitingOf (least .result) ts (a .words .now) us rs) = omega arith in
+    rw (least .ensures) at found
+
+add-i : tie.Need-add-i Inv-loop μ-loop
+add-i c = omega arith
+
+loop-less : tie.Need-loop-less Inv-loop μ-loop
+loop-less c = omega arith
+
+loop-again : tie.Need-loop-again Inv-loop μ-loop
+loop-again c =
+    let l = c .before .before .before .loop in
+    let least = c .before .before .before .before .least in
+    let a = c .before .before .before .before .before .before .args in (
+      omega arith,
+      λ ts us rs.
+          let e = l .inv .1 ts us rs in
+          let next = place-next (a .word) (least .result) (entryOf ts (a .words .now) us rs) (l .i) (omega arith) (c .if1 .left) in
+          omega arith,
+    )
+
+returns-2 : tie.Need-returns-2 Inv-loop μ-loop
+returns-2 c ts us rs =
+    let l = c .before .loop in
+    let least = c .before .before .least in
+    let a = c .before .before .before .before .args in
+    let e = l .inv .1 ts us rs in
+    let none = place-none (a .word) (least .result) (entryOf ts (a .words .now) us rs) (l .i) (omega arith) in
+    let found : l .i ≡ indexOf (a .word) (waitingOf (least .result) ts (a .words .now) us rs) = omega arith in
+    rw (least .ensures) at found
+
+pub find-spec : {M : Type 1} → statement M
+find-spec =
+    tie.close
+    (tie.spec
+    Inv-loop
+    μ-loop
+    least-requires
+    loop-holds
+    mul-if1
+    shared-slice-read-if1
+    returns
+    add-i
+    loop-less
+    loop-again
+    returns-2)

@@ -1,0 +1,106 @@
+-- `append_redos` meets its contract. Before each turn the records of the entries passed are appended.
+use Prim.Native.Nat.{ℕ, _-_}
+use mathlib.Core.List.{[]}
+use native.Mathlib.Omega.{arith}
+use borrow.Author.Needs.{needs}
+use Rattle.parts.specs.declared.Entry.{Entry}
+use Rattle.buffers.specs.Waiting.{entryOf}
+use Rattle.model.specs.Steps.{redoRecord}
+use Rattle.buffers.proofs.Appending.{appended-length}
+use Rattle.buffers.proofs.OldestLoop.{Passed, passed-none, passed-start, passed-more, passed-all}
+use Rattle.buffers.proofs.logging_redos.append_redos.Statement.{statement}
+use Rattle.buffers.proofs.logging_redos.append_redos.Tie as tie
+
+abbrev Inv-loop : tie.InvT-loop
+Inv-loop log₀ number len threads words redos count supply end left₀ i₀ log left i =
+    Passed redoRecord 32 count len (entryOf threads words [] redos) supply log₀ number end i log left
+
+abbrev μ-loop : tie.MeasureT-loop
+μ-loop log₀ number len threads words redos count supply end left₀ i₀ log left i = end - i
+
+-- the entries that are lent
+abbrev entry : tie.Start Inv-loop μ-loop → ℕ → Entry
+entry c = let a = c .args in entryOf (a .threads .now) (a .words .now) [] (a .redos .now)
+
+returns : tie.Need-returns Inv-loop μ-loop
+returns c =
+    let s = c .before .before in
+    let a = s .args in
+    passed-none redoRecord 32 (a .count) (a .len) (entry s) (a .supply) (a .log .now) (a .number) (c .if1 .taken)
+
+least-requires : tie.Need-least-requires Inv-loop μ-loop
+least-requires c κs = search needs
+
+loop-holds : tie.Need-loop-holds Inv-loop μ-loop
+loop-holds c =
+    let s = c .before .before .before in
+    let a = s .args in
+    passed-start redoRecord 32 (a .count) (a .len) (entry s) (a .supply) (a .log .now) (a .number) (c .least .result) (c .before .if1 .left)
+    (c .least .ensures)
+
+element-copy-out-t19 : tie.Need-element-copy-out-t19 Inv-loop μ-loop
+element-copy-out-t19 c = omega arith
+
+mul-t20 : tie.Need-mul-t20 Inv-loop μ-loop
+mul-t20 c = omega arith
+
+element-copy-out-t23 : tie.Need-element-copy-out-t23 Inv-loop μ-loop
+element-copy-out-t23 c = omega arith
+
+mul-append : tie.Need-mul-append Inv-loop μ-loop
+mul-append c = omega arith
+
+element-copy-out-append : tie.Need-element-copy-out-append Inv-loop μ-loop
+element-copy-out-append c = omega arith
+
+add-append : tie.Need-add-append Inv-loop μ-loop
+add-append c = omega arith
+
+append-requires : tie.Need-append-requires Inv-loop μ-loop
+append-requires c κs = search needs
+
+add-i : tie.Need-add-i Inv-loop μ-loop
+add-i c = omega arith
+
+loop-less : tie.Need-loop-less Inv-loop μ-loop
+loop-less c = omega arith
+
+loop-again : tie.Need-loop-again Inv-loop μ-loop
+loop-again c =
+    let l = c .before .before .before .before .before .before .before .before in
+    let s = l .before .before .before .before in
+    let a = s .args in
+    passed-more redoRecord 32 (a .count) (a .len) (entry s) (a .supply) (a .log .now) (a .number) (l .loop .inv) (omega arith)
+    (c .before .before .append .ensures)
+
+same-length : tie.Need-same-length Inv-loop μ-loop
+same-length c = appended-length (c .before .loop .inv .made)
+
+returns-2 : tie.Need-returns-2 Inv-loop μ-loop
+returns-2 c =
+    let l = c .before in
+    let s = l .before .before .before .before in
+    let a = s .args in
+    passed-all redoRecord 32 (a .count) (a .len) (entry s) (a .supply) (a .log .now) (a .number) (l .loop .inv) (omega arith)
+
+pub append-redos-spec : {M : Type 1} → statement M
+append-redos-spec =
+    tie.close
+    (tie.spec
+    Inv-loop
+    μ-loop
+    returns
+    least-requires
+    loop-holds
+    element-copy-out-t19
+    mul-t20
+    element-copy-out-t23
+    mul-append
+    element-copy-out-append
+    add-append
+    append-requires
+    add-i
+    loop-less
+    loop-again
+    same-length
+    returns-2)

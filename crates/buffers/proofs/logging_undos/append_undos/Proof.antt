@@ -1,0 +1,113 @@
+-- `append_undos` meets its contract. Before each turn the records of the entries passed are appended.
+use Prim.Native.Nat.{ℕ, _-_}
+use native.Mathlib.Omega.{arith}
+use borrow.Author.Needs.{needs}
+use Rattle.parts.specs.declared.Entry.{Entry}
+use Rattle.buffers.specs.Waiting.{entryOf}
+use Rattle.model.specs.Steps.{undoRedoRecord}
+use Rattle.buffers.proofs.Appending.{appended-length}
+use Rattle.buffers.proofs.OldestLoop.{Passed, passed-none, passed-start, passed-more, passed-all}
+use Rattle.buffers.proofs.logging_undos.append_undos.Statement.{statement}
+use Rattle.buffers.proofs.logging_undos.append_undos.Tie as tie
+
+abbrev Inv-loop : tie.InvT-loop
+Inv-loop log₀ number len threads words undos redos count supply end left₀ i₀ log left i =
+    Passed undoRedoRecord 16 count len (entryOf threads words undos redos) supply log₀ number end i log left
+
+abbrev μ-loop : tie.MeasureT-loop
+μ-loop log₀ number len threads words undos redos count supply end left₀ i₀ log left i = end - i
+
+-- the entries that are lent
+abbrev entry : tie.Start Inv-loop μ-loop → ℕ → Entry
+entry c = let a = c .args in entryOf (a .threads .now) (a .words .now) (a .undos .now) (a .redos .now)
+
+returns : tie.Need-returns Inv-loop μ-loop
+returns c =
+    let s = c .before .before in
+    let a = s .args in
+    passed-none undoRedoRecord 16 (a .count) (a .len) (entry s) (a .supply) (a .log .now) (a .number) (c .if1 .taken)
+
+least-requires : tie.Need-least-requires Inv-loop μ-loop
+least-requires c κs = search needs
+
+loop-holds : tie.Need-loop-holds Inv-loop μ-loop
+loop-holds c =
+    let s = c .before .before .before in
+    let a = s .args in
+    passed-start undoRedoRecord 16 (a .count) (a .len) (entry s) (a .supply) (a .log .now) (a .number) (c .least .result) (c .before .if1 .left)
+    (c .least .ensures)
+
+element-copy-out-t20 : tie.Need-element-copy-out-t20 Inv-loop μ-loop
+element-copy-out-t20 c = omega arith
+
+mul-t21 : tie.Need-mul-t21 Inv-loop μ-loop
+mul-t21 c = omega arith
+
+element-copy-out-t24 : tie.Need-element-copy-out-t24 Inv-loop μ-loop
+element-copy-out-t24 c = omega arith
+
+mul-append : tie.Need-mul-append Inv-loop μ-loop
+mul-append c = omega arith
+
+element-copy-out-append : tie.Need-element-copy-out-append Inv-loop μ-loop
+element-copy-out-append c = omega arith
+
+mul-append-2 : tie.Need-mul-append-2 Inv-loop μ-loop
+mul-append-2 c = omega arith
+
+element-copy-out-append-2 : tie.Need-element-copy-out-append-2 Inv-loop μ-loop
+element-copy-out-append-2 c = omega arith
+
+add-append : tie.Need-add-append Inv-loop μ-loop
+add-append c = omega arith
+
+append-requires : tie.Need-append-requires Inv-loop μ-loop
+append-requires c κs = search needs
+
+add-i : tie.Need-add-i Inv-loop μ-loop
+add-i c = omega arith
+
+loop-less : tie.Need-loop-less Inv-loop μ-loop
+loop-less c = omega arith
+
+loop-again : tie.Need-loop-again Inv-loop μ-loop
+loop-again c =
+    let l = c .before .before .before .before .before .before .before .before .before in
+    let s = l .before .before .before .before in
+    let a = s .args in
+    passed-more undoRedoRecord 16 (a .count) (a .len) (entry s) (a .supply) (a .log .now) (a .number) (l .loop .inv) (omega arith)
+    (c .before .before .append .ensures)
+
+same-length : tie.Need-same-length Inv-loop μ-loop
+same-length c = appended-length (c .before .loop .inv .made)
+
+returns-2 : tie.Need-returns-2 Inv-loop μ-loop
+returns-2 c =
+    let l = c .before in
+    let s = l .before .before .before .before in
+    let a = s .args in
+    passed-all undoRedoRecord 16 (a .count) (a .len) (entry s) (a .supply) (a .log .now) (a .number) (l .loop .inv) (omega arith)
+
+pub append-undos-spec : {M : Type 1} → statement M
+append-undos-spec =
+    tie.close
+    (tie.spec
+    Inv-loop
+    μ-loop
+    returns
+    least-requires
+    loop-holds
+    element-copy-out-t20
+    mul-t21
+    element-copy-out-t24
+    mul-append
+    element-copy-out-append
+    mul-append-2
+    element-copy-out-append-2
+    add-append
+    append-requires
+    add-i
+    loop-less
+    loop-again
+    same-length
+    returns-2)

@@ -1,0 +1,18 @@
+-- The redo buffer after an eviction, array by array.
+use Prim.Native.Nat.{ℕ, _+_, _-_, _*_}
+use mathlib.Core.List.{List, map}
+use lib.ListN.{getD}
+use Rattle.lines.specs.Walks.{ulogWords}
+use Rattle.buffers.specs.Arrays.{placed, removed}
+
+-- "each ULog word, rising, adds a redo entry of its working value for the line's holder": an array of the redo buffer's 32 places after it,
+-- f giving the entry's number by the word. Of its `len` entries the oldest are logged before and gone.
+abbrev pub refilled : (ℕ → ℕ) → ℕ → ℕ → ℕ → List ℕ → List ℕ
+refilled f len gone states xs = placed (len - gone) (map f (ulogWords states)) (removed 0 gone len xs)
+
+-- the numbers of the entries of line i: its words, and their working values
+abbrev pub wordsIn : ℕ → ℕ → ℕ
+wordsIn i j = 8 * i + j
+
+abbrev pub valuesIn : List ℕ → ℕ → ℕ → ℕ
+valuesIn working i j = getD working (8 * i + j) 0

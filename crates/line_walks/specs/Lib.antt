@@ -1,2 +1,0 @@
--- What the walks over lines and words hand back.
-pub mod Walks

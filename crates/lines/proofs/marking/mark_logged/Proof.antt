@@ -1,0 +1,73 @@
+-- `mark_logged` meets its contract. Before each turn the words passed are marked.
+use Prim.Native.Nat.{ℕ, _-_, _≤_}
+use mathlib.Core.Path.{_≡_, refl, sym, ap, _∙_}
+use mathlib.Core.List.{List}
+use native.Mathlib.Omega.{arith}
+use borrow.Author.Needs.{needs}
+use lib.ListN.{length, take}
+use Rattle.parts.proofs.Oldest.{take-least}
+use Rattle.lines.specs.Walks.{allMarked}
+use Rattle.lines.proofs.WordStates.{length-marked, marked-more}
+use Rattle.lines.proofs.marking.mark_logged.Statement.{statement}
+use Rattle.lines.proofs.marking.mark_logged.Tie as tie
+
+abbrev Inv-loop : tie.InvT-loop
+Inv-loop states₀ words count end i₀ states i = (i ≤ end) × (length states₀ ≡ 64 → length words ≡ 16 → states ≡ allMarked (take i words) states₀)
+
+abbrev μ-loop : tie.MeasureT-loop
+μ-loop states₀ words count end i₀ states i = end - i
+
+least-requires : tie.Need-least-requires Inv-loop μ-loop
+least-requires c κs = search needs
+
+loop-holds : tie.Need-loop-holds Inv-loop μ-loop
+unfolding allMarked
+loop-holds c = (omega arith, λ whole places. refl)
+
+mul-mark : tie.Need-mul-mark Inv-loop μ-loop
+mul-mark c = omega arith
+
+element-copy-out-mark : tie.Need-element-copy-out-mark Inv-loop μ-loop
+element-copy-out-mark c = omega arith
+
+mark-requires : tie.Need-mark-requires Inv-loop μ-loop
+mark-requires c κs = search needs
+
+add-i : tie.Need-add-i Inv-loop μ-loop
+add-i c = omega arith
+
+loop-less : tie.Need-loop-less Inv-loop μ-loop
+loop-less c = omega arith
+
+loop-again : tie.Need-loop-again Inv-loop μ-loop
+loop-again c =
+    let l = c .before .before .before .before .loop in
+    let a = c .before .before .before .before .before .before .args in (
+      omega arith,
+      λ whole places.
+          let e : l .states ≡ allMarked (take (l .i) (a .words .now)) (a .states .now) = l .inv .1 whole places in
+          c .mark .ensures (ap length e ∙ length-marked (take (l .i) (a .words .now)) (a .states .now) ∙ whole)
+          ∙ rw e (sym (marked-more (a .words .now) (l .i) (a .states .now) (omega arith))),
+    )
+
+returns : tie.Need-returns Inv-loop μ-loop
+returns c whole places =
+    let l = c .before .loop in
+    let a = c .before .before .before .args in
+    l .inv .1 whole places ∙ ap (λ (ws : List ℕ). allMarked ws (a .states .now)) (take-least (l .i) (a .count) (a .words .now) (omega arith))
+
+pub mark-logged-spec : {M : Type 1} → statement M
+mark-logged-spec =
+    tie.close
+    (tie.spec
+    Inv-loop
+    μ-loop
+    least-requires
+    loop-holds
+    mul-mark
+    element-copy-out-mark
+    mark-requires
+    add-i
+    loop-less
+    loop-again
+    returns)

@@ -1,0 +1,78 @@
+-- `release_states` meets its contract. Before each turn the lines passed are released.
+use Prim.Native.Nat.{_-_, _≤_, min}
+use mathlib.Core.Path.{_≡_}
+use native.Mathlib.Omega.{arith}
+use borrow.Author.Needs.{needs}
+use Rattle.lines.specs.Walks.{replacedTo, freedStates}
+use Rattle.lines.proofs.ReleasedLines.{replaced-none, replaced-more}
+use Rattle.lines.proofs.releasing.release_states.Statement.{statement}
+use Rattle.lines.proofs.releasing.release_states.Tie as tie
+
+abbrev Inv-loop : tie.InvT-loop
+Inv-loop states₀ holders n thread end i₀ states i = (i ≤ end) × (states ≡ replacedTo (freedStates thread holders) i states₀)
+
+abbrev μ-loop : tie.MeasureT-loop
+μ-loop states₀ holders n thread end i₀ states i = end - i
+
+least-requires : tie.Need-least-requires Inv-loop μ-loop
+least-requires c κs = search needs
+
+loop-holds : tie.Need-loop-holds Inv-loop μ-loop
+loop-holds c = let a = c .before .args in (omega arith, replaced-none (freedStates (a .thread) (a .holders .now)) (a .states .now))
+
+mul-free-states : tie.Need-mul-free-states Inv-loop μ-loop
+mul-free-states c = omega arith
+
+element-copy-out-free-states : tie.Need-element-copy-out-free-states Inv-loop μ-loop
+element-copy-out-free-states c = omega arith
+
+element-copy-out-free-states-2 : tie.Need-element-copy-out-free-states-2 Inv-loop μ-loop
+element-copy-out-free-states-2 c = omega arith
+
+free-states-requires : tie.Need-free-states-requires Inv-loop μ-loop
+free-states-requires c κs = search needs
+
+mul-states : tie.Need-mul-states Inv-loop μ-loop
+mul-states c = omega arith
+
+element-write-states : tie.Need-element-write-states Inv-loop μ-loop
+element-write-states c = omega arith
+
+add-i : tie.Need-add-i Inv-loop μ-loop
+add-i c = omega arith
+
+loop-less : tie.Need-loop-less Inv-loop μ-loop
+loop-less c = omega arith
+
+loop-again : tie.Need-loop-again Inv-loop μ-loop
+loop-again c =
+    let l = c .before .before .before .before .loop in
+    let a = c .before .before .before .before .before .before .args in
+    let e = l .inv .1 in
+    (omega arith, rw (c .free-states .ensures, e) (replaced-more (freedStates (a .thread) (a .holders .now)) (l .i) (a .states .now)))
+
+returns : tie.Need-returns Inv-loop μ-loop
+returns c =
+    let l = c .before .loop in
+    let a = c .before .before .before .args in
+    let e : l .i ≡ min (a .n) 64 = omega arith in
+    rw e at (l .inv .1)
+
+pub release-states-spec : {M : Type 1} → statement M
+release-states-spec =
+    tie.close
+    (tie.spec
+    Inv-loop
+    μ-loop
+    least-requires
+    loop-holds
+    mul-free-states
+    element-copy-out-free-states
+    element-copy-out-free-states-2
+    free-states-requires
+    mul-states
+    element-write-states
+    add-i
+    loop-less
+    loop-again
+    returns)

@@ -1,0 +1,45 @@
+// The lines, and what is done to them: the two-bit states of their words read and replaced, ULog and Dirty words looked for,
+// lines stored home and released. Each function takes every input; what is no line or word changes nothing.
+ghost use mathlib.Core.Path.{_≡_};
+ghost use Rattle.lines.specs.Lines.{freeLines};
+
+mod home_stores;
+mod marking;
+mod releasing;
+mod ulog_words;
+mod word_states;
+
+pub use home_stores::has_dirty;
+pub use home_stores::store_line;
+pub use marking::mark;
+pub use marking::mark_logged;
+pub use releasing::release_holders;
+pub use releasing::release_states;
+pub use ulog_words::count_newest;
+pub use ulog_words::count_ulog;
+pub use word_states::CLEAN;
+pub use word_states::DIRTY;
+pub use word_states::U_LOG;
+pub use word_states::UR_LOG;
+pub use word_states::state_at;
+pub use word_states::with_state;
+
+// Up to 64 lines, by their fields.
+pub struct Lines {
+    pub holders: [u8; 64],
+    pub dirty: [bool; 64],
+    pub states: [u16; 64],
+}
+
+impl Lines {
+    // Every line free: nobody holds it, it is not dirty, its words are Clean.
+    pub fn free() -> Lines
+        ensures { λ (r : Lines). ⌜ r ≡ freeLines ⌝ }
+    {
+        Lines {
+            holders: [255; 64],
+            dirty: [false; 64],
+            states: [0; 64],
+        }
+    }
+}

@@ -1,0 +1,38 @@
+// The two-bit states of a line's words.
+ghost use mathlib.Core.Path.{_≡_};
+ghost use mathlib.Core.Bool.{cond, _&&_};
+ghost use lib.Dec.{ltb};
+ghost use Rattle.parts.specs.States.{stateAt, withState};
+
+// "0 Clean, 1 Dirty (its entry waits in the undo+redo buffer), 2 URLog (undo and newest redo logged), 3 ULog (undo
+// logged, newest redo not)"
+pub const CLEAN: u64 = 0;
+
+pub const DIRTY: u64 = 1;
+
+pub const UR_LOG: u64 = 2;
+
+pub const U_LOG: u64 = 3;
+
+// The state of word j of a line.
+pub fn state_at(states: u16, j: u64) -> u64
+    ensures { λ r. ⌜ r ≡ stateAt states j ⌝ }
+{
+    if j < 8 {
+        (states as u64 >> (2 * j)) & 3
+    } else {
+        0
+    }
+}
+
+// A line's states with that of word j replaced. There are eight words, and four states.
+pub fn with_state(states: u16, j: u64, state: u64) -> u16
+    ensures { λ r. ⌜ r ≡ cond (ltb j 8 && ltb state 4) (withState states j state) states ⌝ }
+{
+    if j < 8 && state < 4 {
+        let others = states as u64 - (state_at(states, j) << (2 * j));
+        (others + (state << (2 * j))) as u16
+    } else {
+        states
+    }
+}

@@ -1,4 +1,0 @@
--- What is appended to the log, and what appending does.
-pub mod Newest
-pub mod Records
-pub mod Progressed

@@ -1,5 +1,6 @@
 -- `reading::note` meets its contract: each arm of the match notes what its type of record says.
 use mathlib.Core.Path.{refl, sym, ap, _∙_}
+use native.Mathlib.Omega.{arith}
 use Rattle.log.specs.declared.Reading.the-variants.{Good}
 use Rattle.recovery.proofs.ReadOn.{valid-read, valid-record}
 use borrow.Author.Needs.{needs}
@@ -34,7 +35,7 @@ element-write-last c =
     let v = valid-record (a .words) _ _ _ (rw read (valid-read (a .words) (a .log .now) (a .number)))
     (c .before .before .before .before .reading .given .1)
     (c .before .entry .given .1) in
-    v .thread
+    omega (arith, v .thread)
 
 enum-told-3 : tie.Need-enum-told-3
 enum-told-3 c = search needs

@@ -1,6 +1,7 @@
 -- `recovering::unreadable` meets its contract: the first two rows of a recovery.
 use mathlib.Core.Path.{refl, sym, _∙_}
 use mathlib.Core.Bool.{true, false}
+use native.Mathlib.Omega.{arith}
 use borrow.Author.Tests.{lt-ltb, le-ltb}
 use lib.Dec.{ltb}
 use Rattle.log.specs.Region.{numbers, headOf}
@@ -31,14 +32,16 @@ head-requires c κs = search needs
 returns-2 : tie.Need-returns-2
 returns-2 c =
     let fit = c .before .before in
-    unread-number (lent (fit .before)) false true _ (sym (fit .if1 .left) ∙ fit .before .wrong-lengths .ensures) (c .before .head .ensures)
-    (lt-ltb _ _ (c .if2 .taken))
+    let head = c .before .head in
+    unread-number (lent (fit .before)) false true _ (sym (fit .if1 .left) ∙ fit .before .wrong-lengths .ensures) (head .ensures)
+    (lt-ltb numbers (head .result) (omega arith))
 
 returns-3 : tie.Need-returns-3
 returns-3 c =
     let fit = c .before .before in
-    unread-number (lent (fit .before)) false false _ (sym (fit .if1 .left) ∙ fit .before .wrong-lengths .ensures) (c .before .head .ensures)
-    (le-ltb _ _ (c .if2 .left))
+    let head = c .before .head in
+    unread-number (lent (fit .before)) false false _ (sym (fit .if1 .left) ∙ fit .before .wrong-lengths .ensures) (head .ensures)
+    (le-ltb numbers (head .result) (omega arith))
 
 pub unreadable-spec : {M : Type 1} → statement M
 unreadable-spec = tie.close (tie.spec wrong-lengths-requires returns head-requires returns-2 returns-3)

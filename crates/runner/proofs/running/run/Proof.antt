@@ -180,8 +180,8 @@ loop-again c =
       r .kept .1 .1 .0 ∙ u .2,
       r .kept .1 .1 .1 .0 ∙ u .3,
       r .kept .1 .1 .1 .1 .0 ∙ u .4,
-      length-set (l .answers) (l .i) (out .answer) ∙ u .5,
-      length-set (l .stores) (l .i) (f (l .i) .supply - out .left) ∙ u .6,
+      simp length-set (u .5),
+      simp length-set (u .6),
       u .7,
       u .8,
       upto-more _ f (l .i) _ _ (view (l .state)) (memory (l .home) (l .working) (l .log)) (l .answers) (l .stores) out (u .9)

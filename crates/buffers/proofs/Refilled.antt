@@ -26,6 +26,17 @@ use Rattle.buffers.specs.Filled.{refilled, wordsIn, valuesIn}
 pub none-gone : (gone len : ℕ) (xs ys : List ℕ) → gone ≡ 0 → ys ≡ xs → ys ≡ removed 0 gone len xs
 none-gone gone len xs ys none e = rw none (e ∙ sym (removed-none len xs))
 
+-- one number put next after the others, or nothing where there is no place for it
+pub then-pushed : (len gone at v : ℕ) (xs ys : List ℕ) → at ≡ len - gone → ys ≡ removed 0 gone len xs
+    → set ys at v ≡ set (removed 0 gone len xs) (len - gone) v
+then-pushed len gone at v xs ys size rest = rw (size, rest)
+
+pub none-pushed : (len gone at v : ℕ) (xs ys : List ℕ) → at ≡ len - gone → ys ≡ removed 0 gone len xs → length xs ≡ 16 → 16 ≤ at
+    → ys ≡ set (removed 0 gone len xs) (len - gone) v
+none-pushed len gone at v xs ys size rest whole h =
+    let w : length ys ≡ 16 = ap length rest ∙ length-removed 0 gone len xs ∙ whole in
+    sym (set-out ys at v (omega arith)) ∙ then-pushed len gone at v xs ys size rest
+
 -- numbers put where the entries that are gone were
 pub then-put : (f : ℕ → ℕ) (len gone states from : ℕ) (xs ys zs : List ℕ) → from ≡ len - gone → ys ≡ removed 0 gone len xs
     → (length ys ≡ 32 → zs ≡ placed from (map f (ulogWords states)) ys) → length xs ≡ 32 → zs ≡ refilled f len gone states xs

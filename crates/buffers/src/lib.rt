@@ -1,6 +1,7 @@
 // The two log buffers, and what is done to them: entries taken out, found, added and logged. Each function takes every
 // input. What is logged is appended under the supply: as many stores are made as it allows, and what is left is handed back.
 
+mod adding;
 mod commit_records;
 mod filling;
 mod finding;
@@ -10,6 +11,9 @@ mod redos;
 mod removing;
 mod undos;
 
+pub use adding::push_thread;
+pub use adding::push_value;
+pub use adding::push_word;
 pub use commit_records::append_commit;
 pub use filling::refill_redos;
 pub use filling::refill_threads;

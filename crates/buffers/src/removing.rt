@@ -4,7 +4,7 @@ use parts::less;
 ghost use mathlib.Core.Path.{_≡_};
 ghost use Rattle.buffers.specs.Arrays.{removed};
 
-pub fn remove_u8(xs: &mut [u8], at: usize, gone: usize, len: usize)
+pub(crate) fn remove_u8(xs: &mut [u8], at: usize, gone: usize, len: usize)
     ensures { λ _. ⌜ now (xs .exit) ≡ removed at gone len (now (xs .entry)) ⌝ }
 {
     let end = less(least(len, xs.len()), gone);
@@ -15,7 +15,7 @@ pub fn remove_u8(xs: &mut [u8], at: usize, gone: usize, len: usize)
     }
 }
 
-pub fn remove_u16(xs: &mut [u16], at: usize, gone: usize, len: usize)
+pub(crate) fn remove_u16(xs: &mut [u16], at: usize, gone: usize, len: usize)
     ensures { λ _. ⌜ now (xs .exit) ≡ removed at gone len (now (xs .entry)) ⌝ }
 {
     let end = less(least(len, xs.len()), gone);
@@ -26,7 +26,7 @@ pub fn remove_u16(xs: &mut [u16], at: usize, gone: usize, len: usize)
     }
 }
 
-pub fn remove_u64(xs: &mut [u64], at: usize, gone: usize, len: usize)
+pub(crate) fn remove_u64(xs: &mut [u64], at: usize, gone: usize, len: usize)
     ensures { λ _. ⌜ now (xs .exit) ≡ removed at gone len (now (xs .entry)) ⌝ }
 {
     let end = less(least(len, xs.len()), gone);

@@ -16,7 +16,7 @@ fn is_settled(states: u16) -> bool
 }
 
 // No word of the first lines is Dirty.
-pub fn all_settled(count: usize, states: &[u16; 64]) -> bool
+pub(crate) fn all_settled(count: usize, states: &[u16; 64]) -> bool
     requires { ⌜ count ≤ 64 ⌝ }
     ensures { λ r. ⌜ ((holders : List ℕ) → r ≡ all settledLine (linesLent count holders (now (states .entry)))) ⌝ }
 {

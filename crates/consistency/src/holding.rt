@@ -37,7 +37,7 @@ fn line_sound(bits: u32, holder: u8, states: u16) -> bool
 }
 
 // Each of the first lines is.
-pub fn lines_sound<'a>(
+pub(crate) fn lines_sound<'a>(
     count: usize,
     opened: &'a [bool; 8],
     holders: &'a [u8; 64],

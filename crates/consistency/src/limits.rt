@@ -4,7 +4,7 @@ ghost use Rattle.consistency.specs.Linear.{inLimits};
 use log::NUMBERS;
 
 // The numbers are within their limits, head and tail in order.
-pub fn within_limits(
+pub(crate) fn within_limits(
     words: u16,
     slots: u16,
     head: u64,

@@ -118,7 +118,7 @@ fn redos_wait<'a>(
 }
 
 // Both. The redo entries are looked at in the states that the undo+redo entries have left: these mark no Clean word.
-pub fn all_wait<'a>(
+pub(crate) fn all_wait<'a>(
     words: u16,
     holders: &'a [u8; 64],
     mut states: [u16; 64],

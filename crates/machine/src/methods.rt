@@ -50,7 +50,7 @@ impl State {
         ensures { λ (r : Answer). ⌜ HandedBack (takenState step self) r ⌝ }
     {
         let fields = self.fields;
-        answer(steps::make(fields, step, home, working, log, supply))
+        answer(steps::perform(fields, step, home, working, log, supply))
     }
 
     // Lent no buffers and no count: what it hands back is the same whatever these are.

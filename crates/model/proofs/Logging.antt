@@ -122,13 +122,13 @@ module _ {g : Says} {s hm x h : ℕ} {dirty : Bool} {st : ℕ} {us ds : List Ent
         → Word (grown dirty (some (e .undo)) (some (e .redo)) g) mine s hm x h dirty URLog us ds
     undo-word word =
         let (thread, redone, undone, last, other) = waiting-undo (word .state) in
-        let (small, filed) = held-waiting (word .holder) (λ a b. cons≢nil a) in
+        let (small, mine-last) = held-waiting (word .holder) (λ a b. cons≢nil a) in
         record {
           crash = or-first (g .undo) (some (e .undo)) (or (g .lateRedo) hm) ∙ undone;
           closed = word .closed;
           calm = λ d. calm-logged dirty (g .late) hm redone (word .calm);
           state = urlog refl last other (first-some (g .undo) (e .undo) ∙ ap some undone) (newest-logged g dirty hm (some (e .undo)) redone (word .calm));
-          holder = held small filed;
+          holder = held small mine-last;
         }
 
     -- the word after its redo entry is logged
@@ -136,13 +136,13 @@ module _ {g : Says} {s hm x h : ℕ} {dirty : Bool} {st : ℕ} {us ds : List Ent
         → Word (grown dirty none (some (e .redo)) g) mine s hm x h dirty st us ds
     redo-word word =
         let (thread, redone, undone, unchanged, other, last) = waiting-redo (word .state) in
-        let (small, filed) = held-waiting (word .holder) (λ a b. cons≢nil b) in
+        let (small, mine-last) = held-waiting (word .holder) (λ a b. cons≢nil b) in
         record {
           crash = rw first-none (word .crash);
           closed = word .closed;
           calm = λ d. calm-logged dirty (g .late) hm redone (word .calm);
           state = clean unchanged other last (rw first-none undone) (newest-logged g dirty hm none redone (word .calm));
-          holder = held small filed;
+          holder = held small mine-last;
         }
 
   -- the word after its working value is logged, it being ULog
@@ -180,13 +180,13 @@ module _ {g : Says} {s hm x h : ℕ} {dirty : Bool} {st : ℕ} {us ds : List Ent
   pub committed-word : {mine : Option ℕ} (mine′ : Option ℕ) → h < 8 → Newest g hm x → Word g mine s hm x h dirty st us ds
       → Word (settledSays g) mine′ (or mine s) hm x nobody dirty Clean [] []
   committed-word {mine} mine′ small newest word =
-      let filed : x ≡ or mine s = go (word .holder) in
+      let mine-last : x ≡ or mine s = go (word .holder) in
       record {
-        crash = newest .home ∙ filed;
-        closed = rw filed at (newest .any);
+        crash = newest .home ∙ mine-last;
+        closed = rw mine-last at (newest .any);
         calm = word .calm;
-        state = clean refl refl refl filed (record { any = newest .any; home = newest .home });
-        holder = free refl filed refl refl refl;
+        state = clean refl refl refl mine-last (record { any = newest .any; home = newest .home });
+        holder = free refl mine-last refl refl refl;
       }
     where
       go : Holding mine s x h st us ds → x ≡ or mine s

@@ -1,4 +1,4 @@
--- A store: a line is claimed, and a value filed.
+-- A store: a line is claimed, and a value stored.
 use Prim.Native.Nat.{ℕ, _/_, _%_, _<_, _≤_}
 use mathlib.Core.Path.{_≡_, refl, sym, _∙_, ap, subst}
 use mathlib.Core.Bool.{Bool, true, false, cond, not, _&&_, true≢false, false≢true}
@@ -153,37 +153,37 @@ record SameEntries (words limit w : ℕ) (es es′ : List Entry) : Type 0 where
   ok : Every (EntryOk words) es′
   entries : (u : ℕ) → (u ≡ w → ⊥) → entriesOf u es′ ≡ entriesOf u es
 
--- a store filed in a thread's list
-abbrev filing : (ℕ → List Store) → ℕ → ℕ → ℕ → ℕ → List Store
-filing p t w v = updated p t (p t ++ (record { at = w; value = v } ∷ []))
+-- a store entered in a thread's list
+abbrev entering : (ℕ → List Store) → ℕ → ℕ → ℕ → ℕ → List Store
+entering p t w v = updated p t (p t ++ (record { at = w; value = v } ∷ []))
 
 -- it is the last to its word
-filing-own : (p : ℕ → List Store) (t w v : ℕ) → lastTo w (filing p t w v t) ≡ some v
+entering-own : (p : ℕ → List Store) (t w v : ℕ) → lastTo w (entering p t w v t) ≡ some v
 unfolding lastTo
-filing-own p t w v = rw (eq-eqb t t refl, last-append, eq-eqb w w refl)
+entering-own p t w v = rw (eq-eqb t t refl, last-append, eq-eqb w w refl)
 
 -- and changes nothing for other words
-filing-other : (p : ℕ → List Store) (t w v u k : ℕ) → (u ≡ w → ⊥) → lastTo u (filing p t w v k) ≡ lastTo u (p k)
+entering-other : (p : ℕ → List Store) (t w v u k : ℕ) → (u ≡ w → ⊥) → lastTo u (entering p t w v k) ≡ lastTo u (p k)
 unfolding lastTo
-filing-other p t w v u k ne =
+entering-other p t w v u k ne =
     elim (ℕ-discrete k t) [
       | yes e ↦ rw (e, eq-eqb t t refl, last-append, ne-eqb w u (λ e. ne (sym e)))
       | no apart ↦ rw (ne-eqb k t apart)
     ]
 
 -- nor for other threads
-filing-apart : (p : ℕ → List Store) (t w v k : ℕ) → (k ≡ t → ⊥) → filing p t w v k ≡ p k
-filing-apart p t w v k apart = rw (ne-eqb k t apart)
+entering-apart : (p : ℕ → List Store) (t w v k : ℕ) → (k ≡ t → ⊥) → entering p t w v k ≡ p k
+entering-apart p t w v k apart = rw (ne-eqb k t apart)
 
 module _ (home working : List ℕ) (b : Book) (rs : List Record) (m : Machine) (core : CoreOf m home working b rs)
     (t w v : ℕ) (thread : t < 8) (within : w < m .sizes .words) (held : holderIn (m .lines) w ≡ t) where
-  -- A thread files a value in a word that it holds: the other words are as before, and this one's new state is to be shown.
-  filed : {ls : List Line} {us ds : List Entry} → SameLines (m .opened) w (m .lines) ls → SameEntries (m .sizes .words) 16 w (m .buffers .undoRedo) us
+  -- A thread stores a value in a word that it holds: the other words are as before, and this one's new state is to be shown.
+  rewritten : {ls : List Line} {us ds : List Entry} → SameLines (m .opened) w (m .lines) ls → SameEntries (m .sizes .words) 16 w (m .buffers .undoRedo) us
       → SameEntries (m .sizes .words) 32 w (m .buffers .redo) ds → (dirtyIn (m .lines) w ≡ false → or (says w (dirtyIn (m .lines) w) rs .late) (getD home w 0) ≡ v)
       → State (says w (dirtyIn (m .lines) w) rs) (b .committed w) (getD home w 0) v t (dirtyIn (m .lines) w) (stateIn ls w)
       (entriesOf w us) (entriesOf w ds)
-      → Core (m .sizes .words) (m .opened) ls us ds rs home (set working w v) (b .committed) (filing (b .pending) t w v)
-  filed {ls} {us} {ds} lines inUndo inRedo calm state =
+      → Core (m .sizes .words) (m .opened) ls us ds rs home (set working w v) (b .committed) (entering (b .pending) t w v)
+  rewritten {ls} {us} {ds} lines inUndo inRedo calm state =
       record {
         shape =
             shape-words (shape-lines (core .shape) (lines .size) (lines .ok)) (record { size = inUndo .size; ok = inUndo .ok })
@@ -199,7 +199,7 @@ module _ (home working : List ℕ) (b : Book) (rs : List Record) (m : Machine) (
                   elim (ℕ-discrete u w) [
                     | yes e ↦
                         rw e
-                        (simp (held, filing-own (b .pending) t w v, getD-set-same working w v 0 (omega (arith, core .shape .workingSize)))
+                        (simp (held, entering-own (b .pending) t w v, getD-set-same working w v 0 (omega (arith, core .shape .workingSize)))
                         (record {
                           crash = core .at w within .word .crash;
                           closed = core .at w within .word .closed;
@@ -209,7 +209,7 @@ module _ (home working : List ℕ) (b : Book) (rs : List Record) (m : Machine) (
                         }))
                     | no ne ↦
                         simp (
-                          filing-other (b .pending) t w v u,
+                          entering-other (b .pending) t w v u,
                           lines .state u,
                           inUndo .entries u,
                           inRedo .entries u,
@@ -221,14 +221,14 @@ module _ (home working : List ℕ) (b : Book) (rs : List Record) (m : Machine) (
       }
     where
       others : (u : ℕ) → u < m .sizes .words → (k : ℕ) → k < 8 → getD (m .opened) k false ≡ true → (k ≡ holderIn (m .lines) u → ⊥)
-          → lastTo u (filing (b .pending) t w v k) ≡ none
+          → lastTo u (entering (b .pending) t w v k) ≡ none
       others u h k small ready apart =
           let before : lastTo u (b .pending k) ≡ none = core .at u h .others k small ready apart in
           elim (ℕ-discrete u w) [
             | yes e ↦
                 let holds : t ≡ holderIn (m .lines) u = sym held ∙ ap (holderIn (m .lines)) (sym e) in
-                ap (lastTo u) (filing-apart (b .pending) t w v k (λ same. apart (same ∙ holds))) ∙ before
-            | no ne ↦ filing-other (b .pending) t w v u k ne ∙ before
+                ap (lastTo u) (entering-apart (b .pending) t w v k (λ same. apart (same ∙ holds))) ∙ before
+            | no ne ↦ entering-other (b .pending) t w v u k ne ∙ before
           ]
 
   -- the lines and the buffers as they are
@@ -241,11 +241,11 @@ module _ (home working : List ℕ) (b : Book) (rs : List Record) (m : Machine) (
   same-redos : SameEntries (m .sizes .words) 32 w (m .buffers .redo) (m .buffers .redo)
   same-redos = record { size = core .shape .redos .size; ok = core .shape .redos .ok; entries = λ u ne. refl }
 
-  -- the working value is filed anew
-  filed-same : v ≡ getD working w 0 → CoreOf m home (set working w v) (entered (store t w v) b) rs
+  -- the working value is stored anew
+  rewritten-same : v ≡ getD working w 0 → CoreOf m home (set working w v) (entered (store t w v) b) rs
   unfolding entered
-  filed-same same =
-      filed
+  rewritten-same same =
+      rewritten
       same-lines
       same-undos
       same-redos
@@ -273,7 +273,7 @@ module _ (home working : List ℕ) (b : Book) (rs : List Record) (m : Machine) (
   unfolding storedAs entered keep
   stored-clean dirty room us ds undo =
       let e : Entry = record { thread = t; word = w; undo = getD working w 0; redo = v } in
-      filed
+      rewritten
       (marks Dirty (omega arith) .0)
       (record {
         size = simp length-append (omega arith);
@@ -304,7 +304,7 @@ module _ (home working : List ℕ) (b : Book) (rs : List Record) (m : Machine) (
         | State.clean c us ds undo new ↦ rw (same ∙ c) (stored-clean dirty (room c) us (ap (drop 1) ds) undo)
         | State.cleanWaiting e c us ds own x undo ↦ rw (same ∙ c) (stored-clean dirty (room c) us (ap (drop 1) ds) undo)
         | State.changed e c us ds own x undo _ ↦ rw (same ∙ c)
-            (filed
+            (rewritten
             same-lines
             (record {
               size = rw (length-amended w v (m .buffers .undoRedo)) (core .shape .undos .size);
@@ -315,8 +315,8 @@ module _ (home working : List ℕ) (b : Book) (rs : List Record) (m : Machine) (
             (λ calm. cc)
             (State.changed (withRedo v e) c (entries-amended-own w v (m .buffers .undoRedo) e us) ds (own ∙ held) refl undo dirty))
         | State.urlog c us ds undo new ↦ rw (same ∙ c)
-            (filed (marks ULog (omega arith) .0) same-undos same-redos (λ calm. cc) (State.ulog (marks ULog (omega arith) .1) us ds undo))
-        | State.ulog c us ds undo ↦ rw (same ∙ c) (filed same-lines same-undos same-redos (λ calm. cc) (State.ulog c us ds undo))
+            (rewritten (marks ULog (omega arith) .0) same-undos same-redos (λ calm. cc) (State.ulog (marks ULog (omega arith) .1) us ds undo))
+        | State.ulog c us ds undo ↦ rw (same ∙ c) (rewritten same-lines same-undos same-redos (λ calm. cc) (State.ulog c us ds undo))
       ]
 
 -- a Clean word has no undo+redo entry
@@ -383,7 +383,7 @@ module _ (m : Machine) (mem : Memory) (b : Book) (rs : List Record) (t w v : ℕ
       let flag : Line → Bool = λ line. line .dirty in
       let held : holderIn (claims flag) w ≡ t = ap (λ (l : Line). l .holder) (claim flag) in
       rw append-nil
-      (filed-same (mem .home) (mem .working) b rs (withLines (claims flag) m) (claim-core flag (λ d. d)) t w v thread within held same)
+      (rewritten-same (mem .home) (mem .working) b rs (withLines (claims flag) m) (claim-core flag (λ d. d)) t w v thread within held same)
 
   -- the value differs from the working one
   stored-other : CoreOf (storeNext m mem t w v false) (mem .home) (set (mem .working) w v) (entered (store t w v) b)

@@ -31,7 +31,7 @@ fn closes(reading: Reading, thread: u8) -> bool
 }
 
 // Whether the thread has a commit among the records from one number up to another.
-pub fn has_commit(log: &[u64], from: u64, to: u64, words: u16, thread: u8) -> bool
+pub(crate) fn has_commit(log: &[u64], from: u64, to: u64, words: u16, thread: u8) -> bool
     ensures { λ r. ⌜ r ≡ closed thread (records (readFrom (to - from) words (now (log .entry)) from)) ⌝ }
 {
     let mut number = from;

@@ -165,7 +165,7 @@ fn undo_pass(
 }
 
 // Both passes over the records read, under one supply. Hands back what is left of it.
-pub fn store_all(home: &mut [u64], log: &[u64], words: u16, found: Found, supply: u64) -> u64
+pub(crate) fn store_all(home: &mut [u64], log: &[u64], words: u16, found: Found, supply: u64) -> u64
     requires { ⌜ Scanned words (now log) found ⌝ }
     ensures { λ r. ⌜ r ≡ supply - length (recoveryWrites (records (recordsOf words (now (log .entry))))) ⌝ }
     ensures { λ r. ⌜ now (home .exit) ≡ storedUnder supply (now (home .entry)) (recoveryWrites (records (recordsOf words (now (log .entry))))) ⌝ }

@@ -43,7 +43,7 @@ fn note(last: &mut [u64; 8], log: &[u64], number: u64, words: u16) -> bool
 }
 
 // Every record read, from the head on to the first that is not there.
-pub fn scan(log: &[u64], words: u16) -> Found
+pub(crate) fn scan(log: &[u64], words: u16) -> Found
     ensures { λ (r : Found). ⌜ Scanned words (now (log .entry)) r ⌝ }
 {
     let mut tail = log::head(log);

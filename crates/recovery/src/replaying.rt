@@ -13,7 +13,7 @@ pub struct Replayed {
 }
 
 // A log with a bad record stores nothing.
-pub fn replay(home: &mut [u64], log: &[u64], words: u16, supply: u64) -> Replayed
+pub(crate) fn replay(home: &mut [u64], log: &[u64], words: u16, supply: u64) -> Replayed
     ensures { λ (r : Replayed). ⌜ r ≡ replayed words supply (now (log .entry)) ⌝ }
     ensures { λ (r : Replayed). ⌜ now (home .exit) ≡ storedUnder supply (now (home .entry)) (replayStores words (now (log .entry))) ⌝ }
 {

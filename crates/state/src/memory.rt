@@ -14,7 +14,7 @@ pub fn wrong_lengths(home: &[u64], working: &[u64], log: &[u64]) -> bool
 }
 
 // All words become 0.
-pub fn clear(words: &mut [u64])
+pub(crate) fn clear(words: &mut [u64])
     ensures { λ _. ⌜ now (words .exit) ≡ replicate (length (now (words .entry))) 0 ⌝ }
 {
     let mut i = 0;

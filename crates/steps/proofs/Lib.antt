@@ -7,7 +7,7 @@ pub mod LineWords
 pub mod LineRows
 pub mod WritingBack
 pub mod Eviction
-pub mod Filing
+pub mod StoreParts
 pub mod StoreRows
 pub mod Commits
 pub mod Sound

@@ -18,7 +18,7 @@ use Rattle.state.specs.declared.Fields.{Fields}
 use Rattle.state.specs.View.{view}
 use Rattle.steps.proofs.Outcome.{Width, width, common-fit}
 use Rattle.steps.proofs.Appending.{AppendWay}
-use Rattle.steps.proofs.Filing.{logs-most, undos-length}
+use Rattle.steps.proofs.StoreParts.{logs-most, undos-length}
 
 -- whether thread and word are known, the rows that are looked at first
 abbrev pub placeRows : Machine → ℕ → ℕ → List Row

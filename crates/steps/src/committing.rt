@@ -30,7 +30,7 @@ use state::THREAD;
 use state::cut;
 
 // The number of records that the thread's commit logs, with so many entries in the buffers.
-pub fn count_records<'a>(
+fn count_records<'a>(
     undos: usize,
     redos: usize,
     words: u16,
@@ -48,7 +48,7 @@ pub fn count_records<'a>(
 }
 
 // The rows of a commit after the common ones. `opened` says whether the thread has an open transaction; the commit logs `count` records.
-pub fn commit_refusal(
+fn commit_refusal(
     opened: bool,
     slots: u16,
     head: u64,
@@ -123,7 +123,7 @@ fn carry_out(
 }
 
 // The step, of a state that the common rows do not refuse; the lent arrays are taken out of it.
-pub fn committed<'a>(
+pub(crate) fn committed<'a>(
     state: Fields,
     opened: &'a [bool; 8],
     holders: &'a [u8; 64],

@@ -30,7 +30,7 @@ fn refusal(verdict: Verdict) -> u64
 }
 
 // The step, of a state that the common rows do not refuse.
-pub fn deleted(
+pub(crate) fn deleted(
     mut state: Fields,
     home: &[u64],
     working: &mut [u64],

@@ -7,9 +7,9 @@ ghost use Rattle.model.specs.Refusals.{numberOf, common as commonRows};
 ghost use Rattle.model.specs.Step.{evict, stepped};
 ghost use Rattle.state.specs.View.{view, memory, shown};
 ghost use Rattle.state.specs.HandedBack.{HandedBack};
-use crate::places::holder_at;
-use crate::places::put_states;
-use crate::places::states_at;
+use crate::arrays::holder_at;
+use crate::arrays::put_states;
+use crate::arrays::states_at;
 use crate::refusals::no_room;
 use crate::refusals::refused;
 use crate::writing_back::line_refusal;
@@ -35,7 +35,7 @@ fn lacking(len: usize, states: &[u16; 64], line: u64) -> usize
 }
 
 // The step, of a state that the common rows do not refuse. A line whose words are all Clean stays as it is.
-pub fn evicted(
+pub(crate) fn evicted(
     mut state: Fields,
     home: &[u64],
     working: &mut [u64],

@@ -1,10 +1,10 @@
 // The nine steps of document 01, as functions of a state by its fields. Each hands back what the model's definition of the step gives.
+mod arrays;
 mod beginning;
 mod committing;
 mod deleting;
 mod evicting;
 mod log_oldest;
-mod places;
 mod refusals;
 mod sizes;
 mod stepping;
@@ -12,4 +12,4 @@ mod storing;
 mod words;
 mod writing_back;
 
-pub use stepping::make;
+pub use stepping::perform;

@@ -38,7 +38,7 @@ fn refusal(len: usize, slots: u16, head: u64, tail: u64) -> u64
 }
 
 // The step log undo, of a state that the common rows do not refuse.
-pub fn undo_logged(
+pub(crate) fn undo_logged(
     mut state: Fields,
     home: &[u64],
     working: &mut [u64],
@@ -85,7 +85,7 @@ pub fn undo_logged(
 }
 
 // The step log redo, in the same way.
-pub fn redo_logged(
+pub(crate) fn redo_logged(
     mut state: Fields,
     home: &[u64],
     working: &mut [u64],

@@ -19,7 +19,7 @@ use state::Made;
 use state::SIZE;
 
 // "State, buffers and count are unchanged"
-pub fn refused(number: u64, supply: u64, state: Fields) -> Made
+pub(crate) fn refused(number: u64, supply: u64, state: Fields) -> Made
     ensures { λ (r : Made). ⌜ r ≡ record { answer = number; left = supply; state = state } ⌝ }
 {
     Made {
@@ -30,14 +30,14 @@ pub fn refused(number: u64, supply: u64, state: Fields) -> Made
 }
 
 // A row of the table before the rest of them.
-pub fn refuse(applies: bool, number: u64, rest: u64) -> u64
+pub(crate) fn refuse(applies: bool, number: u64, rest: u64) -> u64
     ensures { λ r. ⌜ r ≡ cond applies number rest ⌝ }
 {
     if applies { number } else { rest }
 }
 
 // The number under which every step that is lent the buffers refuses a state, or 0; `sound` says whether the state is consistent.
-pub fn common(
+pub(crate) fn common(
     lost: bool,
     words: u16,
     slots: u16,
@@ -59,7 +59,7 @@ pub fn common(
 }
 
 // The rows of a step that logs `count` records; head and tail are those of a log of so many slots.
-pub fn no_room(slots: u16, head: u64, tail: u64, count: u64) -> u64
+pub(crate) fn no_room(slots: u16, head: u64, tail: u64, count: u64) -> u64
     requires { ⌜ (head ≤ tail) × ((tail ≤ head + slots) × ((tail ≤ numbers) × (count ≤ 2048))) ⌝ }
     ensures { λ r. ⌜ ((m : Machine) (mem : Memory) → LogOf slots head tail m → r ≡ numberOf (noRoom m mem count)) ⌝ }
 {

@@ -6,7 +6,7 @@ ghost use Rattle.state.specs.View.{memory};
 use state::wrong_lengths;
 
 // A length is wrong, or, unless the state is lost, differs from its W or L.
-pub fn wrong_size(
+pub(crate) fn wrong_size(
     lost: bool,
     words: u16,
     slots: u16,

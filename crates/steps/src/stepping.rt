@@ -38,7 +38,7 @@ fn takes_state(step: Step) -> bool
 
 // The number of the rows that come before a step's own, or 0; `sound` says whether the state that it takes is consistent. A recovery has
 // none, and a begin is lent no buffers.
-fn unfit(state: Fields, step: Step, sound: bool, home: &[u64], working: &[u64], log: &[u64]) -> u64
+fn first_refusal(state: Fields, step: Step, sound: bool, home: &[u64], working: &[u64], log: &[u64]) -> u64
     requires { ⌜ (takesState step ≡ true → sound ≡ consistent (view state)) ⌝ }
     ensures { λ r. ⌜ r ≡ numberOf (firstRows step (view state) (memory (now (home .entry)) (now (working .entry)) (now (log .entry)))) ⌝ }
 {
@@ -59,7 +59,7 @@ fn unfit(state: Fields, step: Step, sound: bool, home: &[u64], working: &[u64], 
 }
 
 // The step, if none of these rows refuses it. The lent arrays are the state's own, taken out of it to be looked at.
-fn made<'a>(
+fn dispatch<'a>(
     state: Fields,
     opened: &'a [bool; 8],
     holders: &'a [u8; 64],
@@ -116,7 +116,7 @@ fn made<'a>(
 }
 
 // The arrays that the test of consistency looks at are taken out and lent, so that the rest of the state is not copied.
-pub fn make(
+pub fn perform(
     state: Fields,
     step: Step,
     home: &mut [u64],
@@ -151,11 +151,11 @@ pub fn make(
             &redo_threads,
             &redo_words,
         );
-    let number = unfit(state, step, sound, home, working, log);
+    let number = first_refusal(state, step, sound, home, working, log);
     if number != 0 {
         return refused(number, supply, state);
     }
-    made(
+    dispatch(
         state,
         &opened,
         &holders,

@@ -1,4 +1,4 @@
-// "Store t, word, value": the line is claimed, and another value is filed by the word's state.
+// "Store t, word, value": the line is claimed, and another value is stored by the word's state.
 ghost use mathlib.Core.Path.{_≡_};
 ghost use mathlib.Core.Bool.{_&&_, not};
 ghost use mathlib.Core.List.{[], _∷_};
@@ -17,12 +17,9 @@ ghost use Rattle.buffers.specs.Records.{undoRecordsOf};
 ghost use Rattle.state.specs.View.{view, memory, shown};
 ghost use Rattle.state.specs.HandedBack.{HandedBack};
 ghost use Rattle.steps.specs.Steps.{TakenOut, LogOf};
-use crate::places::push_thread;
-use crate::places::push_value;
-use crate::places::push_word;
-use crate::places::put_flag;
-use crate::places::put_holder;
-use crate::places::put_value;
+use crate::arrays::put_flag;
+use crate::arrays::put_holder;
+use crate::arrays::put_value;
 use crate::refusals::no_room;
 use crate::refusals::refuse;
 use crate::refusals::refused;
@@ -32,6 +29,9 @@ use buffers::RedoBuffer;
 use buffers::UndoBuffer;
 use buffers::append_undos;
 use buffers::find;
+use buffers::push_thread;
+use buffers::push_value;
+use buffers::push_word;
 use lines::CLEAN;
 use lines::DIRTY;
 use lines::Lines;
@@ -50,7 +50,7 @@ use state::THREAD;
 use state::cut;
 
 // A thread other than this one holds the line of the word.
-pub fn held_by_another(holders: &[u8; 64], thread: u64, word: u16) -> bool
+fn held_by_another(holders: &[u8; 64], thread: u64, word: u16) -> bool
     requires { ⌜ word < 512 ⌝ }
     ensures { λ r. ⌜ ((ls : Lines) → ls .holders ≡ now (holders .entry) → (n : ℕ) → word / 8 < n
         → r ≡ (not (eqb (holderIn (firstLines n ls) word) nobody) && not (eqb (holderIn (firstLines n ls) word) thread))) ⌝ }
@@ -60,7 +60,7 @@ pub fn held_by_another(holders: &[u8; 64], thread: u64, word: u16) -> bool
 }
 
 // How many entries a store logs first: the oldest, if another value comes to a Clean word and 16 entries wait.
-pub fn logs_first(states: &[u16; 64], len: usize, word: u16, same: bool) -> usize
+fn logs_first(states: &[u16; 64], len: usize, word: u16, same: bool) -> usize
     requires { ⌜ (word < 512) × (len ≤ 16) ⌝ }
     ensures { λ r. ⌜ ((s : Fields) → s .lines .states ≡ now (states .entry) → s .undos .len ≡ len → word / 8 < s .words / 8
         → r ≡ storeLogs (view s) word same) ⌝ }
@@ -72,7 +72,7 @@ pub fn logs_first(states: &[u16; 64], len: usize, word: u16, same: bool) -> usiz
 }
 
 // The state after a store that replaces `entry.undo` by `entry.redo` and that logs `count` entries first.
-pub fn next_state(mut state: Fields, entry: Entry, count: usize) -> Fields
+fn next_state(mut state: Fields, entry: Entry, count: usize) -> Fields
     requires { ⌜ (state .undos .len ≤ 16) × ((state .redos .len ≤ 32) × (state .tail ≤ numbers)) ⌝ }
     requires { ⌜ (entry .word < state .words) × ((state .words ≤ 512) × (state .words % 8 ≡ 0)) ⌝ }
     requires { ⌜ count ≡ storeLogs (view state) (entry .word) (eqb (entry .redo) (entry .undo)) ⌝ }
@@ -121,14 +121,14 @@ pub fn next_state(mut state: Fields, entry: Entry, count: usize) -> Fields
 }
 
 // The number of an unknown thread or word, or 0.
-pub fn early_refusal(words: u16, thread: u64, word: u64) -> u64
+fn place_refusal(words: u16, thread: u64, word: u64) -> u64
     ensures { λ r. ⌜ ((m : Machine) → m .sizes .words ≡ words → r ≡ numberOf (unknownThread thread ∷ unknownWord m word ∷ [])) ⌝ }
 {
     refuse(7 < thread, THREAD, refuse(words as u64 <= word, PLACE, 0))
 }
 
 // The number under which a store of a known thread to a known word is refused, or 0; it logs `count` records.
-pub fn late_refusal(idle: bool, taken: bool, count: usize, slots: u16, head: u64, tail: u64) -> u64
+fn store_refusal(idle: bool, taken: bool, count: usize, slots: u16, head: u64, tail: u64) -> u64
     requires { ⌜ (head ≤ tail) × ((tail ≤ head + slots) × ((tail ≤ numbers) × (count ≤ 1))) ⌝ }
     ensures { λ r. ⌜ ((m : Machine) (mem : Memory) → LogOf slots head tail m
         → r ≡ numberOf (row idle idleNumber ∷ row taken held ∷ noRoom m mem count)) ⌝ }
@@ -159,7 +159,7 @@ fn append_oldest(undos: UndoBuffer, count: usize, log: &mut [u64], tail: u64, su
 }
 
 // The step, of a state that the common rows do not refuse; the lent arrays are taken out of it.
-pub fn stored<'a>(
+pub(crate) fn stored<'a>(
     state: Fields,
     opened: &'a [bool; 8],
     holders: &'a [u8; 64],
@@ -178,9 +178,9 @@ pub fn stored<'a>(
         ≡ stepped (store thread word value) supply (view state) (memory (now (home .entry)) (now (working .entry)) (now (log .entry))) ⌝ }
     ensures { λ (r : Made). ⌜ HandedBack state r ⌝ }
 {
-    let early = early_refusal(state.words, thread, word);
-    if early != 0 {
-        return refused(early, supply, state);
+    let place = place_refusal(state.words, thread, word);
+    if place != 0 {
+        return refused(place, supply, state);
     }
     let at = word as usize;
     let entry = Entry {
@@ -193,9 +193,9 @@ pub fn stored<'a>(
     let taken = held_by_another(holders, thread, entry.word);
     let same = value == entry.undo;
     let count = logs_first(states, state.undos.len, entry.word, same);
-    let late = late_refusal(idle, taken, count, state.slots, state.head, state.tail);
-    if late != 0 {
-        return refused(late, supply, state);
+    let own = store_refusal(idle, taken, count, state.slots, state.head, state.tail);
+    if own != 0 {
+        return refused(own, supply, state);
     }
     let mut left = supply;
     if count != 0 {

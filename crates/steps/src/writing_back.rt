@@ -10,7 +10,7 @@ ghost use Rattle.model.specs.Refusals.{numberOf, common as commonRows, place, p
 ghost use Rattle.model.specs.Step.{writeBack, stepped};
 ghost use Rattle.state.specs.View.{view, memory, shown};
 ghost use Rattle.state.specs.HandedBack.{HandedBack};
-use crate::places::put_flag;
+use crate::arrays::put_flag;
 use crate::refusals::refuse;
 use crate::refusals::refused;
 use lines::has_dirty;
@@ -23,7 +23,7 @@ use state::PLACE;
 use state::cut;
 
 // The rows of a step on a line that must not be pending, before the rest of its rows. `states` are those of the 64 lines.
-pub fn line_refusal(words: u16, states: &[u16; 64], line: u64, rest: u64) -> u64
+pub(crate) fn line_refusal(words: u16, states: &[u16; 64], line: u64, rest: u64) -> u64
     ensures { λ r. ⌜ r ≡ cond (leb (words / 8) line) place
         (cond (any (λ j. eqb (stateAt (getD (now (states .entry)) (line % 64) 0) j) Dirty) (upTo 8)) pending rest) ⌝ }
 {
@@ -36,7 +36,7 @@ pub fn line_refusal(words: u16, states: &[u16; 64], line: u64, rest: u64) -> u64
 }
 
 // The step, of a state that the common rows do not refuse; `states` are its lines' own.
-pub fn written_back(
+pub(crate) fn written_back(
     mut state: Fields,
     states: &[u16; 64],
     home: &mut [u64],

@@ -8,7 +8,7 @@ use Rattle.buffers.specs.Waiting.{undosWaiting}
 use Rattle.model.specs.Machine.{stateIn}
 use Rattle.state.specs.declared.Fields.{Fields}
 use Rattle.state.specs.View.{view}
-use Rattle.steps.proofs.Filing.{logs-clean, logs-other, undos-length}
+use Rattle.steps.proofs.StoreParts.{logs-clean, logs-other, undos-length}
 use Rattle.steps.proofs.storing.logs_first.Statement.{statement}
 use Rattle.steps.proofs.storing.logs_first.Tie as tie
 

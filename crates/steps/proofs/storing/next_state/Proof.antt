@@ -25,9 +25,9 @@ use Rattle.state.specs.declared.Fields.{Fields}
 use Rattle.state.specs.View.{view}
 use Rattle.lines.proofs.WordStates.{withStates, first-marked, whole-marked}
 use Rattle.steps.proofs.LoggingOldest.{WholeUndos, WholeRedos, undosGone, undos-gone}
-use Rattle.steps.proofs.Filing.{logs-most, logs-other, none-logged, logs-room, undos-length, next-same, next-other}
-use Rattle.steps.proofs.Filing.{held-lines, dirty-lines, whole-dirty, place-found, redos-kept, Ready}
-use Rattle.steps.proofs.Filing.{filed-first, filed-dirty, filed-logged, filed-last}
+use Rattle.steps.proofs.StoreParts.{logs-most, logs-other, none-logged, logs-room, undos-length, next-same, next-other}
+use Rattle.steps.proofs.StoreParts.{held-lines, dirty-lines, whole-dirty, place-found, redos-kept, Ready}
+use Rattle.steps.proofs.StoreParts.{stored-first, stored-dirty, stored-logged, stored-last}
 use Rattle.steps.proofs.storing.next_state.Statement.{statement}
 use Rattle.steps.proofs.storing.next_state.Tie as tie
 
@@ -184,16 +184,16 @@ module _ (c : tie.After-mark-logged) where
       (omega arith, (omega arith, omega arith))
 
 push-thread-requires : tie.Need-push-thread-requires
-push-thread-requires c κs = let m = c .before in (few-first (here m) .1, limits m .0)
+push-thread-requires c κs = search needs
 
 push-word-requires : tie.Need-push-word-requires
-push-word-requires c κs = let m = c .before .before .before in (few-first (here m) .1, limits m .0)
+push-word-requires c κs = search needs
 
 push-value-requires : tie.Need-push-value-requires
-push-value-requires c κs = let m = c .before .before .before .before .before in (few-first (here m) .1, limits m .0)
+push-value-requires c κs = search needs
 
 push-value-requires-2 : tie.Need-push-value-requires-2
-push-value-requires-2 c κs = let m = c .before .before .before .before .before .before .before in (few-first (here m) .1, limits m .0)
+push-value-requires-2 c κs = search needs
 
 sub-state : tie.Need-sub-state
 sub-state c = few-first (here (c .before .before .before .before .before .before .before .before)) .1
@@ -254,39 +254,39 @@ module _ (c : tie.After-mark) where
       }
 
   -- `ds` are the redo entries that remain
-  first-filed : (mem : Memory) → getD (mem .working) (e (here made) .word) 0 ≡ e (here made) .undo → (ds : List Entry)
+  first-stored : (mem : Memory) → getD (mem .working) (e (here made) .word) 0 ≡ e (here made) .undo → (ds : List Entry)
       → ds ≡ discarded (e (here made) .word) (redosWaiting (s (here made) .redos))
       → withLines (firstLines (s (here made) .words / 8) (withStates (c .mark .last .0) (room made .lines)))
       (withRedo ds (withUndoRedo (undosWaiting entries) (view (room made))))
       ≡ storeNext (view (s (here made))) mem (e (here made) .thread) (e (here made) .word) (e (here made) .redo)
       (eqb (e (here made) .redo) (e (here made) .undo))
-  first-filed mem was ds kept =
+  first-stored mem was ds kept =
       let h = here made in
       let k = h .before .before .before .before .before .before .state-of .result in
       let l = limits made in
       next-other (view (s h)) mem (e h .thread) (e h .word) (e h .redo) (eqb (e h .redo) (e h .undo))
       (firstLines (s h .words / 8) (lines h)) (e h .undo) k (start h .args .count)
       (view (room made)) _ (differs h) (claim h) was (start h .pre .1 .1) (kind h) (ready made .seen)
-      (filed-first (room made) (e h) k (entries .threads) (entries .words) (entries .undos) (entries .redos) (c .mark .last .0) ds
+      (stored-first (room made) (e h) k (entries .threads) (entries .words) (entries .undos) (entries .redos) (c .mark .last .0) ds
       (ready made .lines) (ready made .undos) (l .0) (l .1 .1) (made .before .before .before .before .match .keys1)
-      (c .before .before .before .before .before .before .before .before .before .push-thread .ensures)
-      (c .before .before .before .before .before .before .before .push-word .ensures)
-      (c .before .before .before .before .before .push-value .ensures)
-      (c .before .before .before .push-value2 .ensures)
+      (c .before .before .before .before .before .before .before .before .before .push-thread .ensures (whole-undos h .keys .threads))
+      (c .before .before .before .before .before .before .before .push-word .ensures (whole-undos h .keys .words))
+      (c .before .before .before .before .before .push-value .ensures (whole-undos h .undos))
+      (c .before .before .before .push-value2 .ensures (whole-undos h .keys .redos))
       (c .mark .ensures (ready made .lines .states)) kept)
 
 -- the place of the word's redo entry was looked for
 module _ (c : tie.After-find) where
-  abbrev filed : tie.After-mark
-  filed = c .before .before .before .before
+  abbrev marked-so : tie.After-mark
+  marked-so = c .before .before .before .before
 
   abbrev at : tie.After-put-flag
-  at = here (made filed)
+  at = here (made marked-so)
 
   redo-place : c .find .result ≡ indexOf (e at .word) (redosWaiting (s at .redos))
   redo-place =
       let d = s at .redos in
-      place-found (e at .word) (d .len) 32 (c .find .result) (d .threads) (d .words) [] (d .redos) (whole-keys (start at) .words) (limits (made filed) .1 .0)
+      place-found (e at .word) (d .len) 32 (c .find .result) (d .threads) (d .words) [] (d .redos) (whole-keys (start at) .words) (limits (made marked-so) .1 .0)
       (c .find .ensures (d .threads) [] (d .redos))
 
 returns-2 : tie.Need-returns-2
@@ -296,16 +296,16 @@ returns-2 c mem was =
     let values = c .before .remove-values in
     let found = c .before .before .before .before .before .before .before .before in
     let d = s (at found) .redos in
-    first-filed (filed found) mem was _
+    first-stored (marked-so found) mem was _
     (redos-kept d (e (at found) .word) (found .find .result) (threads .last .0) (words .last .0) (values .last .0) (whole-keys (start (at found)))
-    (limits (made (filed found)) .1 .0) (c .before .before .before .before .before .before .before .if2 .taken) (redo-place found)
+    (limits (made (marked-so found)) .1 .0) (c .before .before .before .before .before .before .before .if2 .taken) (redo-place found)
     (threads .ensures) (words .ensures) (values .ensures))
 
 returns-3 : tie.Need-returns-3
 returns-3 c mem was =
     let found = c .before in
     let d = s (at found) .redos in
-    first-filed (filed found) mem was (redosWaiting d)
+    first-stored (marked-so found) mem was (redosWaiting d)
     (discarded-none (e (at found) .word) (d .len) (redoAt d) (found .find .result) (c .if2 .left) (redo-place found))
 
 -- a Dirty word has an entry already, and the place of its oldest one was looked for
@@ -321,17 +321,17 @@ module _ (c : tie.After-find2) where
       (omega arith) (c .find2 .ensures (d .threads) (d .undos) (d .redos))
 
   -- `us` are the undo+redo entries with its new redo
-  dirty-filed : (mem : Memory) → getD (mem .working) (e known .word) 0 ≡ e known .undo → (us : List Entry)
+  dirty-stored : (mem : Memory) → getD (mem .working) (e known .word) 0 ≡ e known .undo → (us : List Entry)
       → us ≡ amended (e known .word) (e known .redo) (undosWaiting (s known .undos))
       → withUndoRedo us (view (claimed known))
       ≡ storeNext (view (s known)) mem (e known .thread) (e known .word) (e known .redo) (eqb (e known .redo) (e known .undo))
-  dirty-filed mem was us new =
+  dirty-stored mem was us new =
       let k = known .before .before .before .before .before .before .state-of .result in
       let dirty = c .before .before .before .before .match .keys2 in
       next-other (view (s known)) mem (e known .thread) (e known .word) (e known .redo) (eqb (e known .redo) (e known .undo))
       (firstLines (s known .words / 8) (lines known)) (e known .undo) k (start known .args .count)
       (view (claimed known)) _ (differs known) (claim known) was (start known .pre .1 .1) (kind known)
-      (none-first known (λ z. omega arith)) (filed-dirty (view (claimed known)) (e known) k us dirty new)
+      (none-first known (λ z. omega arith)) (stored-dirty (view (claimed known)) (e known) k us dirty new)
 
 returns-4 : tie.Need-returns-4
 returns-4 c mem was =
@@ -339,7 +339,7 @@ returns-4 c mem was =
     let b = s (known found) .undos in
     let p = start (known found) .pre in
     let whole = whole-undos (known found) .keys .redos in
-    dirty-filed found mem was _
+    dirty-stored found mem was _
     (rw (c .put-value .ensures)
     (amended-at (e (known found) .word) (e (known found) .redo) (b .len) (b .threads) (b .words) (b .undos) (b .redos) (found .find2 .result)
     (omega arith) (c .before .before .if3 .taken) (place found)))
@@ -348,7 +348,7 @@ returns-5 : tie.Need-returns-5
 returns-5 c mem was =
     let found = c .before in
     let b = s (known found) .undos in
-    dirty-filed found mem was (undosWaiting b)
+    dirty-stored found mem was (undosWaiting b)
     (amended-none (e (known found) .word) (e (known found) .redo) (b .len) (undoAt b) (found .find2 .result)
     (c .if3 .left) (place found))
 
@@ -361,7 +361,7 @@ returns-6 c mem was =
     (firstLines (s here .words / 8) (lines here)) (e here .undo) k (start here .args .count)
     (view (claimed here)) _ (differs here) (claim here) was (p .1 .1) (kind here)
     (none-first here (λ z. let m = c .before .before .match .keys3 in omega arith))
-    (filed-logged (view (claimed here)) (e here) k _ (c .before .before .match .keys3)
+    (stored-logged (view (claimed here)) (e here) k _ (c .before .before .match .keys3)
     (rw (c .mark2 .ensures (whole-claimed here .states)) (first-marked (s here .words / 8) (lines here) (e here .word) 3 (whole-claimed here) (omega arith))))
 
 returns-7 : tie.Need-returns-7
@@ -372,7 +372,7 @@ returns-7 c mem was =
     next-other (view (s here)) mem (e here .thread) (e here .word) (e here .redo) (eqb (e here .redo) (e here .undo))
     (firstLines (s here .words / 8) (lines here)) (e here .undo) k (start here .args .count)
     (view (claimed here)) _ (differs here) (claim here) was (p .1 .1) (kind here) (none-first here (c .match .rest .0 .0 .1))
-    (filed-last (view (claimed here)) (e here) k (c .match .rest .0 .0 .1) (c .match .rest .0 .1) (c .match .rest .1))
+    (stored-last (view (claimed here)) (e here) k (c .match .rest .0 .0 .1) (c .match .rest .0 .1) (c .match .rest .1))
 
 pub next-state-spec : {M : Type 1} → statement M
 next-state-spec =

@@ -18,7 +18,7 @@ use Rattle.buffers.proofs.Guards.{undos-appended}
 use Rattle.state.specs.View.{view, memory}
 use Rattle.steps.specs.Steps.{TakenOut}
 use Rattle.steps.proofs.Outcome.{refused-way}
-use Rattle.steps.proofs.Filing.{logs-most, undos-length, redos-length}
+use Rattle.steps.proofs.StoreParts.{logs-most, undos-length, redos-length}
 use Rattle.steps.proofs.Appending.{appended-of, append-done, append-cut}
 use Rattle.steps.proofs.StoreRows.{placeRows, place-refused, Known, known, late-number, StoreAppends, store-appends, store-size}
 use Rattle.steps.proofs.storing.stored.Statement.{statement}
@@ -28,28 +28,28 @@ use Rattle.steps.proofs.storing.stored.Tie as tie
 abbrev lent : tie.Start → Memory
 lent c = memory (c .args .home .now) (c .args .working .now) (c .args .log .now)
 
-early-refusal-requires : tie.Need-early-refusal-requires
-early-refusal-requires c κs = search needs
+place-refusal-requires : tie.Need-place-refusal-requires
+place-refusal-requires c κs = search needs
 
 refused-requires : tie.Need-refused-requires
 refused-requires c κs = search needs
 
 -- where the store began
-abbrev begin : tie.After-early-refusal → tie.Start
+abbrev begin : tie.After-place-refusal → tie.Start
 begin c = c .before .before .before .before
 
 -- the number of the first rows, on thread and word
-early-here : (c : tie.After-early-refusal) → let a = begin c .args in
-    c .early-refusal .result ≡ numberOf (placeRows (view (a .state)) (a .thread) (a .word))
-early-here c = c .early-refusal .ensures (view (begin c .args .state)) refl
+early-here : (c : tie.After-place-refusal) → let a = begin c .args in
+    c .place-refusal .result ≡ numberOf (placeRows (view (a .state)) (a .thread) (a .word))
+early-here c = c .place-refusal .ensures (view (begin c .args .state)) refl
 
 returns : tie.Need-returns
 returns c =
     let d = c .before .before in
     let s = begin d in
     let a = s .args in
-    refused-way (store (a .thread) (a .word) (a .value)) (a .supply) (a .state) (lent s) (s .pre .1) (d .early-refusal .result)
-    (place-refused (a .state) (lent s) (a .thread) (a .word) (a .value) (s .pre .1) (d .early-refusal .result) (early-here d) (c .before .if1 .taken))
+    refused-way (store (a .thread) (a .word) (a .value)) (a .supply) (a .state) (lent s) (s .pre .1) (d .place-refusal .result)
+    (place-refused (a .state) (lent s) (a .thread) (a .word) (a .value) (s .pre .1) (d .place-refusal .result) (early-here d) (c .before .if1 .taken))
     (c .before .if1 .taken) refl
     (c .refused .result) (c .refused .ensures)
 
@@ -61,7 +61,7 @@ module _ (c : tie.Else1) where
   known-here : Known (start .args .state) (lent start) (start .args .thread) (start .args .word) (start .args .value)
   known-here =
       known (start .args .state) (lent start) (start .args .thread) (start .args .word) (start .args .value) (start .pre .1)
-      (c .before .early-refusal .result) (early-here (c .before)) (c .if1 .left)
+      (c .before .place-refusal .result) (early-here (c .before)) (c .if1 .left)
 
 cast-t23 : tie.Need-cast-t23
 cast-t23 c =
@@ -131,8 +131,8 @@ module _ (c : tie.After-logs-first) where
       let count = count-here in
       omega arith
 
-late-refusal-requires : tie.Need-late-refusal-requires
-late-refusal-requires c κs =
+store-refusal-requires : tie.Need-store-refusal-requires
+store-refusal-requires c κs =
     let clauses = known-here (passed c) .fits .clauses in
     let few = count-few c in
     (clauses .order, (clauses .span, (clauses .tail, few)))
@@ -141,11 +141,11 @@ refused-requires-2 : tie.Need-refused-requires-2
 refused-requires-2 c κs = search needs
 
 -- the late rows decide then
-module _ (c : tie.After-late-refusal) where
+module _ (c : tie.After-store-refusal) where
   abbrev begun : tie.Start
   begun = start (passed (c .before))
 
-  late-here : c .late-refusal .result
+  late-here : c .store-refusal .result
       ≡ numberOf (storeRows (view (begun .args .state)) (lent begun) (begun .args .thread) (begun .args .word) (begun .args .value))
   late-here =
       let here = passed (c .before) in
@@ -154,18 +154,18 @@ module _ (c : tie.After-late-refusal) where
       let word = k .word in
       let whole = k .width .whole in
       let taken = c .before .before .before .held-by-another in
-      late-number (a .state) (lent begun) (a .thread) (a .word) (a .value) (begun .pre .1) (here .before .early-refusal .result)
-      (early-here (here .before)) (here .if1 .left) (a .opened .now) (taken .result) (c .before .logs-first .result) (c .late-refusal .result)
+      late-number (a .state) (lent begun) (a .thread) (a .word) (a .value) (begun .pre .1) (here .before .place-refusal .result)
+      (early-here (here .before)) (here .if1 .left) (a .opened .now) (taken .result) (c .before .logs-first .result) (c .store-refusal .result)
       (out (c .before) .isOpened) (count-here (c .before))
       (taken .ensures (a .state .lines) (sym (out (c .before) .isHolders)) (a .state .words / 8) (omega arith))
-      (c .late-refusal .ensures (view (a .state)) (lent begun) (record { slots = refl; head = refl; tail = refl }))
+      (c .store-refusal .ensures (view (a .state)) (lent begun) (record { slots = refl; head = refl; tail = refl }))
 
 returns-2 : tie.Need-returns-2
 returns-2 c =
     let late = c .before .before in
     let a = begun late .args in
     refused-way (store (a .thread) (a .word) (a .value)) (a .supply) (a .state) (lent (begun late)) (begun late .pre .1)
-    (late .late-refusal .result) (late-here late) (c .before .if2 .taken) refl
+    (late .store-refusal .result) (late-here late) (c .before .if2 .taken) refl
     (c .refused2 .result) (c .refused2 .ensures)
 
 append-oldest-requires : tie.Need-append-oldest-requires
@@ -281,7 +281,7 @@ pub stored-spec : {M : Type 1} → statement M
 stored-spec =
     tie.close
     (tie.spec
-    early-refusal-requires
+    place-refusal-requires
     refused-requires
     returns
     cast-t23
@@ -291,7 +291,7 @@ stored-spec =
     element-copy-out-idle
     held-by-another-requires
     logs-first-requires
-    late-refusal-requires
+    store-refusal-requires
     refused-requires-2
     returns-2
     append-oldest-requires

@@ -1,4 +1,4 @@
--- `stepping::make` meets its contract: the state is tested once, and the step does the rest.
+-- `stepping::perform` meets its contract: the state is tested once, and the step does the rest.
 use mathlib.Core.Path.{_≡_, refl, sym, _∙_}
 use mathlib.Core.Bool.{true, false≢true}
 use mathlib.Core.Logic.{⊎-elim}
@@ -10,8 +10,8 @@ use Rattle.state.specs.View.{view, memory}
 use Rattle.model.specs.Step.{Step, takesState, firstRows}
 use Rattle.steps.proofs.Outcome.{first-way}
 use Rattle.steps.proofs.Sound.{sound-here}
-use Rattle.steps.proofs.stepping.make.Statement.{statement}
-use Rattle.steps.proofs.stepping.make.Tie as tie
+use Rattle.steps.proofs.stepping.perform.Statement.{statement}
+use Rattle.steps.proofs.stepping.perform.Tie as tie
 
 takes-state-requires : tie.Need-takes-state-requires
 takes-state-requires c κs = search needs
@@ -29,19 +29,19 @@ sound c takes =
     ⊎-elim (λ w. w .9 ∙ w .8 .ensures ∙ sound-here (start c .args .state))
     (λ w. absurd (false≢true (sym (w .0 .left) ∙ c .before .takes-state .ensures ∙ takes))) (c .if1 .came)
 
-unfit-requires : tie.Need-unfit-requires
-unfit-requires c κs = sound (c .before .before .before)
+first-refusal-requires : tie.Need-first-refusal-requires
+first-refusal-requires c κs = sound (c .before .before .before)
 
 -- the number of the rows before the step's own
-module _ (c : tie.After-unfit) where
+module _ (c : tie.After-first-refusal) where
   abbrev begun : tie.Start
   begun = start (c .before .before .before .before)
 
   abbrev lent : Memory
   lent = memory (begun .args .home .now) (begun .args .working .now) (begun .args .log .now)
 
-  number : c .unfit .result ≡ numberOf (firstRows (begun .args .step) (view (begun .args .state)) lent)
-  number = c .unfit .ensures
+  number : c .first-refusal .result ≡ numberOf (firstRows (begun .args .step) (view (begun .args .state)) lent)
+  number = c .first-refusal .ensures
 
 refused-requires : tie.Need-refused-requires
 refused-requires c κs = search needs
@@ -59,11 +59,11 @@ returns : tie.Need-returns
 returns c =
     let d = c .before .before in
     let a = begun d .args in
-    first-way (a .step) (a .supply) (a .state) (lent d) (d .unfit .result) (number d) (c .before .if2 .taken) (c .refused .result)
+    first-way (a .step) (a .supply) (a .state) (lent d) (d .first-refusal .result) (number d) (c .before .if2 .taken) (c .refused .result)
     (c .refused .ensures)
 
-made-requires : tie.Need-made-requires
-made-requires c κs =
+dispatch-requires : tie.Need-dispatch-requires
+dispatch-requires c κs =
     let e = c .before .before .before .before .before .before in
     (record { isOpened = refl; isHolders = refl; isStates = refl }, sym (number (e .before)) ∙ e .if2 .left)
 
@@ -79,19 +79,19 @@ same-length-6 c = search needs
 returns-2 : tie.Need-returns-2
 returns-2 c = search needs
 
-pub make-spec : {M : Type 1} → statement M
-make-spec =
+pub perform-spec : {M : Type 1} → statement M
+perform-spec =
     tie.close
     (tie.spec
     takes-state-requires
     is-consistent-requires
-    unfit-requires
+    first-refusal-requires
     refused-requires
     same-length
     same-length-2
     same-length-3
     returns
-    made-requires
+    dispatch-requires
     same-length-4
     same-length-5
     same-length-6

@@ -1,8 +1,8 @@
--- `early_refusal` is the number of the rows on thread and word.
+-- `place_refusal` is the number of the rows on thread and word.
 use borrow.Author.Needs.{needs}
 use Rattle.model.specs.Refusals.{numberOf}
-use Rattle.steps.proofs.storing.early_refusal.Statement.{statement}
-use Rattle.steps.proofs.storing.early_refusal.Tie as tie
+use Rattle.steps.proofs.storing.place_refusal.Statement.{statement}
+use Rattle.steps.proofs.storing.place_refusal.Tie as tie
 
 refuse-requires : tie.Need-refuse-requires
 refuse-requires c κs = search needs
@@ -14,5 +14,5 @@ returns : tie.Need-returns
 unfolding numberOf
 returns c m width = simp (c .refuse2 .ensures, c .before .refuse .ensures, width)
 
-pub early-refusal-spec : {M : Type 1} → statement M
-early-refusal-spec = tie.close (tie.spec refuse-requires refuse-requires-2 returns)
+pub place-refusal-spec : {M : Type 1} → statement M
+place-refusal-spec = tie.close (tie.spec refuse-requires refuse-requires-2 returns)

@@ -1,4 +1,4 @@
--- A store's parts: the entry that is logged first, what is filed by the word's state, and the state after them.
+-- A store's parts: the entry that is logged first, what is stored by the word's state, and the state after them.
 use Prim.Native.Nat.{ℕ, zero, suc, _+_, _-_, _/_, _≤_, _<_, min}
 use mathlib.Core.Path.{_≡_, refl, sym, _∙_, ap}
 use mathlib.Core.Bool.{Bool, true, false, cond, _&&_, not}
@@ -92,35 +92,35 @@ pub none-logged : (m : Machine) (k : ℕ) → k ≡ 0 → m ≡ undosLogged k m
 unfolding allLogged
 none-logged m k e = rw e (let h : m .span .tail ≡ m .span .tail + 0 = omega arith in ap (λ (n : ℕ). withTail n m) h)
 
--- what is filed by the word's state: a first entry, another redo, another state, or nothing
+-- what is stored by the word's state: a first entry, another redo, another state, or nothing
 module _ (m : Machine) (e : Entry) (k : ℕ) where
-  pub filed-clean : (ls : List Line) (us ds : List Entry) → k ≡ 0 → ls ≡ marked Dirty (e .word) (m .lines)
+  pub stored-clean : (ls : List Line) (us ds : List Entry) → k ≡ 0 → ls ≡ marked Dirty (e .word) (m .lines)
       → us ≡ m .buffers .undoRedo ++ (e ∷ []) → ds ≡ discarded (e .word) (m .buffers .redo)
       → withLines ls (withRedo ds (withUndoRedo us m)) ≡ storedAs k (e .thread) (e .word) (e .undo) (e .redo) m
   unfolding storedAs
-  filed-clean ls us ds k=0 a b d = rw (k=0, a, b, d)
+  stored-clean ls us ds k=0 a b d = rw (k=0, a, b, d)
 
-  pub filed-dirty : (us : List Entry) → k ≡ 1 → us ≡ amended (e .word) (e .redo) (m .buffers .undoRedo)
+  pub stored-dirty : (us : List Entry) → k ≡ 1 → us ≡ amended (e .word) (e .redo) (m .buffers .undoRedo)
       → withUndoRedo us m ≡ storedAs k (e .thread) (e .word) (e .undo) (e .redo) m
   unfolding storedAs
-  filed-dirty us k=1 a = rw (k=1, a)
+  stored-dirty us k=1 a = rw (k=1, a)
 
-  pub filed-logged : (ls : List Line) → k ≡ 2 → ls ≡ marked ULog (e .word) (m .lines)
+  pub stored-logged : (ls : List Line) → k ≡ 2 → ls ≡ marked ULog (e .word) (m .lines)
       → withLines ls m ≡ storedAs k (e .thread) (e .word) (e .undo) (e .redo) m
   unfolding storedAs
-  filed-logged ls k=2 a = rw (k=2, a)
+  stored-logged ls k=2 a = rw (k=2, a)
 
 -- a word in any other state, the newest redo not logged, stays as it is
-pub filed-last : (m : Machine) (e : Entry) (k : ℕ) → (k ≡ 0 → ⊥) → (k ≡ 1 → ⊥) → (k ≡ 2 → ⊥)
+pub stored-last : (m : Machine) (e : Entry) (k : ℕ) → (k ≡ 0 → ⊥) → (k ≡ 1 → ⊥) → (k ≡ 2 → ⊥)
     → m ≡ storedAs k (e .thread) (e .word) (e .undo) (e .redo) m
 unfolding storedAs
-filed-last m e zero a b d = absurd (a refl)
-filed-last m e (suc zero) a b d = absurd (b refl)
-filed-last m e (suc (suc zero)) a b d = absurd (d refl)
-filed-last m e (suc (suc (suc k))) a b d = refl
+stored-last m e zero a b d = absurd (a refl)
+stored-last m e (suc zero) a b d = absurd (b refl)
+stored-last m e (suc (suc zero)) a b d = absurd (d refl)
+stored-last m e (suc (suc (suc k))) a b d = refl
 
 -- the same of a first entry put in place: `ds` are the redo entries that remain
-pub filed-first : (r : Fields) (e : Entry) (k : ℕ) (ts ws us vs states : List ℕ) (ds : List Entry) → WholeLines (r .lines) → WholeUndos (r .undos)
+pub stored-first : (r : Fields) (e : Entry) (k : ℕ) (ts ws us vs states : List ℕ) (ds : List Entry) → WholeLines (r .lines) → WholeUndos (r .undos)
     → r .undos .len < 16 → r .words ≤ 512 → k ≡ 0 → ts ≡ set (r .undos .threads) (r .undos .len) (e .thread)
     → ws ≡ set (r .undos .words) (r .undos .len) (e .word) → us ≡ set (r .undos .undos) (r .undos .len) (e .undo)
     → vs ≡ set (r .undos .redos) (r .undos .len) (e .redo) → states ≡ replaced (r .lines .states) (e .word) Dirty
@@ -128,8 +128,8 @@ pub filed-first : (r : Fields) (e : Entry) (k : ℕ) (ts ws us vs states : List 
     → withLines (firstLines (r .words / 8) (withStates states (r .lines)))
     (withRedo ds (withUndoRedo (waitingOf (r .undos .len + 1) ts ws us vs) (view r)))
     ≡ storedAs k (e .thread) (e .word) (e .undo) (e .redo) (view r)
-filed-first r e k ts ws us vs states ds lines undos short few clean t w u v marks kept =
-    filed-clean (view r) e k (firstLines (r .words / 8) (withStates states (r .lines)))
+stored-first r e k ts ws us vs states ds lines undos short few clean t w u v marks kept =
+    stored-clean (view r) e k (firstLines (r .words / 8) (withStates states (r .lines)))
     (waitingOf (r .undos .len + 1) ts ws us vs) ds clean
     (rw marks (first-marked (r .words / 8) (r .lines) (e .word) Dirty lines (omega arith)))
     (rw (t, w, u, v)

@@ -1,4 +1,4 @@
--- `stepping::made` meets its contract: each step's function meets its own.
+-- `stepping::dispatch` meets its contract: each step's function meets its own.
 use mathlib.Core.Path.{_≡_, subst}
 use borrow.Author.Needs.{needs}
 use Rattle.model.specs.Refusals.{numberOf}
@@ -6,8 +6,8 @@ use Rattle.state.specs.View.{view, memory}
 use Rattle.model.specs.Step.{Step, firstRows}
 use Rattle.steps.specs.Steps.{TakenOut}
 use Rattle.recovery.proofs.RecoverStep.{recover-any}
-use Rattle.steps.proofs.stepping.made.Statement.{statement}
-use Rattle.steps.proofs.stepping.made.Tie as tie
+use Rattle.steps.proofs.stepping.dispatch.Statement.{statement}
+use Rattle.steps.proofs.stepping.dispatch.Tie as tie
 
 -- no early row refuses the step, whichever it is
 passed : (c : tie.After-slice-known3) (s : Step)
@@ -206,8 +206,8 @@ returns-9 c =
     let d = c .before .before .before .before .before .before in
     rw (d .before .before .before .before .enum-told4 .given .1, recover-any) (d .recover .ensures .0, d .recover .ensures .1 .0)
 
-pub made-spec : {M : Type 1} → statement M
-made-spec =
+pub dispatch-spec : {M : Type 1} → statement M
+dispatch-spec =
     tie.close
     (tie.spec
     enum-known-step

@@ -1,4 +1,4 @@
--- `stepping::unfit` meets its contract: the rows before a step's own, by the step.
+-- `stepping::first_refusal` meets its contract: the rows before a step's own, by the step.
 use Prim.Native.Nat.{ℕ}
 use mathlib.Core.Path.{_≡_, refl}
 use mathlib.Core.List.{List, [], _∷_}
@@ -11,8 +11,8 @@ use Rattle.state.specs.View.{view}
 use Rattle.model.specs.Step.{Step, begin, store, logUndo, logRedo, evict, writeBack, commit, deleteOldest, recover, firstRows}
 use Rattle.parts.proofs.Step.{the-type}
 use Rattle.steps.proofs.TakesState.{takes-one}
-use Rattle.steps.proofs.stepping.unfit.Statement.{statement}
-use Rattle.steps.proofs.stepping.unfit.Tie as tie
+use Rattle.steps.proofs.stepping.first_refusal.Statement.{statement}
+use Rattle.steps.proofs.stepping.first_refusal.Tie as tie
 
 -- the variants that are neither a begin nor a recovery, by their numbers
 abbrev others : List ℕ
@@ -64,6 +64,6 @@ returns-3 c =
     (c .common .ensures (view (start .args .state)) refl refl refl refl
     (start .pre (takes-one others (start .args .step) (λ one. miss others 8 tt one) one)))
 
-pub unfit-spec : {M : Type 1} → statement M
-unfit-spec =
+pub first-refusal-spec : {M : Type 1} → statement M
+first-refusal-spec =
     tie.close (tie.spec enum-told refuse-requires refuse-requires-2 enum-told-2 common-requires returns returns-2 returns-3)

@@ -1,8 +1,8 @@
--- `late_refusal` is the first of its numbers that applies.
+-- `store_refusal` is the first of its numbers that applies.
 use borrow.Author.Needs.{needs}
 use Rattle.model.specs.Refusals.{numberOf}
-use Rattle.steps.proofs.storing.late_refusal.Statement.{statement}
-use Rattle.steps.proofs.storing.late_refusal.Tie as tie
+use Rattle.steps.proofs.storing.store_refusal.Statement.{statement}
+use Rattle.steps.proofs.storing.store_refusal.Tie as tie
 
 no-room-requires : tie.Need-no-room-requires
 no-room-requires c κs = search needs
@@ -17,5 +17,5 @@ returns : tie.Need-returns
 unfolding numberOf
 returns c m mem log = simp (c .refuse2 .ensures, c .before .refuse .ensures, c .before .before .no-room .ensures m mem log)
 
-pub late-refusal-spec : {M : Type 1} → statement M
-late-refusal-spec = tie.close (tie.spec no-room-requires refuse-requires refuse-requires-2 returns)
+pub store-refusal-spec : {M : Type 1} → statement M
+store-refusal-spec = tie.close (tie.spec no-room-requires refuse-requires refuse-requires-2 returns)

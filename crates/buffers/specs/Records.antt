@@ -29,18 +29,20 @@ oldestRecords f places count len es = cond (leb len places) (map f (take count e
 
 -- those of the undo+redo buffer
 abbrev pub undoRecordsOf : ℕ → ℕ → List ℕ → List ℕ → List ℕ → List ℕ → List Record
-undoRecordsOf count len threads words undos redos = oldestRecords undoRedoRecord 16 count len (waitingOf len threads words undos redos)
+undoRecordsOf count len threads words undos redos = oldestRecords undoRedoRecord 16 count len
+    (waitingOf len threads words undos redos)
 
 -- those of the redo buffer
 abbrev pub redoRecordsOf : ℕ → ℕ → List ℕ → List ℕ → List ℕ → List Record
-redoRecordsOf count len threads words redos = oldestRecords redoRecord 32 count len (waitingOf len threads words [] redos)
+redoRecordsOf count len threads words redos = oldestRecords redoRecord 32 count len
+    (waitingOf len threads words [] redos)
 
 -- so many entries are as many as the buffers have places for, and so many words are at most 64 lines
 abbrev pub fitting : ℕ → ℕ → ℕ → Bool
 fitting undos redos words = (leb undos 16 && leb redos 32) && (leb words 512 && eqb (words % 8) 0)
 
--- "Commit t: logs the whole undo+redo buffer, the whole redo buffer, then a redo record of the working value for each ULog word in lines
--- held by t, rising, then the commit record"
+-- "Commit t: logs the whole undo+redo buffer, the whole redo buffer, then a redo record of the working value for each
+-- ULog word in lines held by t, rising, then the commit record"
 unfoldable pub commitRecordsOf : UndoBuffer → RedoBuffer → Lines → List ℕ → ℕ → List Record
 commitRecordsOf undos redos lines working t =
     cond (fitting (undos .len) (redos .len) (length working))

@@ -1,5 +1,5 @@
-// An entry added to the undo+redo buffer, array by array: of `len` entries the `gone` oldest are taken, and the new one's number
-// is put next after the others. Where there is no such place nothing is put.
+// An entry added to the undo+redo buffer, array by array: of `len` entries the `gone` oldest are taken, and the new
+// one's number is put next after the others. Where there is no such place nothing is put.
 use crate::UndoBuffer;
 ghost use mathlib.Core.Path.{_≡_};
 ghost use Prim.Native.Nat.{_-_};

@@ -1,5 +1,5 @@
-// "Commit t: logs the whole undo+redo buffer, the whole redo buffer, then a redo record of the working value for each ULog word in lines
-// held by t, rising, then the commit record".
+// "Commit t: logs the whole undo+redo buffer, the whole redo buffer, then a redo record of the working value for each
+// ULog word in lines held by t, rising, then the commit record".
 ghost use mathlib.Core.Bool.{Bool};
 ghost use mathlib.Core.List.{List};
 ghost use Prim.Native.Nat.{_+_, _*_, _≤_, _<_};
@@ -65,9 +65,11 @@ fn append_line(
     states: u16,
     at: Progress,
 ) -> Progress
-    requires { ⌜ (8 * i + 8 ≤ length (now working)) × ((length (now working) ≤ 512) × (at .number + 8 ≤ 2 * numbers)) ⌝ }
+    requires { ⌜ (8 * i + 8 ≤ length (now working)) × ((length (now working) ≤ 512)
+        × (at .number + 8 ≤ 2 * numbers)) ⌝ }
     ensures { λ (r : Progress). ⌜ Progressed (at .left) (now (log .entry)) (at .number)
-        (redosOf (now (working .entry)) thread (newestInLine thread i holder states 8)) (now (log .exit)) (r .number) (r .left) ⌝ }
+        (redosOf (now (working .entry)) thread (newestInLine thread i holder states 8)) (now (log .exit)) (r .number)
+        (r .left) ⌝ }
 {
     if holder != thread {
         return at;
@@ -92,9 +94,11 @@ fn append_newest<'a>(
     n: usize,
     at: Progress,
 ) -> Progress
-    requires { ⌜ (8 * n ≤ length (now working)) × ((length (now working) ≤ 512) × (at .number + 8 * n ≤ 2 * numbers)) ⌝ }
+    requires { ⌜ (8 * n ≤ length (now working)) × ((length (now working) ≤ 512)
+        × (at .number + 8 * n ≤ 2 * numbers)) ⌝ }
     ensures { λ (r : Progress). ⌜ ((dirty : List Bool) → Progressed (at .left) (now (log .entry)) (at .number)
-        (redosOf (now (working .entry)) thread (newestWords (firstLines n (linesOf (now (holders .entry)) dirty (now (states .entry)))) thread (8 * n)))
+        (redosOf (now (working .entry)) thread (newestWords (firstLines n (linesOf (now (holders .entry)) dirty (now
+        (states .entry)))) thread (8 * n)))
         (now (log .exit)) (r .number) (r .left)) ⌝ }
 {
     let mut next = at;
@@ -106,8 +110,8 @@ fn append_newest<'a>(
     next
 }
 
-// Appends all records of a thread's commit, the first as record `number`. W is the number of working words. The two buffers are lent by
-// their fields, `undos` and `redos` being their lengths, and the lines by theirs.
+// Appends all records of a thread's commit, the first as record `number`. W is the number of working words. The two
+// buffers are lent by their fields, `undos` and `redos` being their lengths, and the lines by theirs.
 pub fn append_commit<'a>(
     log: &mut [u64],
     working: &[u64],
@@ -127,9 +131,11 @@ pub fn append_commit<'a>(
     supply: u64,
 ) -> u64
     ensures { λ r. ⌜ ((dirty : List Bool) → Stored supply (now (log .entry)) number (commitRecordsOf
-        (undoBufferOf undos (now («undo_threads» .entry)) (now («undo_words» .entry)) (now («undo_undos» .entry)) (now («undo_redos» .entry)))
+        (undoBufferOf undos (now («undo_threads» .entry)) (now («undo_words» .entry)) (now («undo_undos» .entry)) (now
+        («undo_redos» .entry)))
         (redoBufferOf redos (now («redo_threads» .entry)) (now («redo_words» .entry)) (now («redo_redos» .entry)))
-        (linesOf (now (holders .entry)) dirty (now (states .entry))) (now (working .entry)) thread) (now (log .exit)) r) ⌝ }
+        (linesOf (now (holders .entry)) dirty (now (states .entry))) (now (working .entry)) thread) (now
+        (log .exit)) r) ⌝ }
 {
     let words = working.len();
     let short = (undos <= 16) & (redos <= 32);

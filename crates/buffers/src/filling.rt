@@ -1,5 +1,5 @@
-// "Set down a line": eviction. Each ULog word of the line adds a redo entry, for which the oldest are gone where places lack. The redo buffer
-// changes array by array.
+// "Set down a line": eviction. Each ULog word of the line adds a redo entry, for which the oldest are gone where places
+// lack. The redo buffer changes array by array.
 ghost use mathlib.Core.Path.{_≡_};
 ghost use mathlib.Core.Bool.{cond, _&&_};
 ghost use mathlib.Core.List.{map};
@@ -25,8 +25,8 @@ fn adds(states: u16, j: usize, at: usize) -> bool
     }
 }
 
-// The numbers of the new entries put from place `from` on, one for each ULog word of the line: in the array of the threads, of the words and
-// of the redos.
+// The numbers of the new entries put from place `from` on, one for each ULog word of the line: in the array of the
+// threads, of the words and of the redos.
 fn put_threads(threads: &mut [u8; 32], from: usize, states: u16, holder: u8)
     ensures { λ _. ⌜ (length (now (threads .entry)) ≡ 32
         → now (threads .exit) ≡ placed from (map (λ _. holder) (ulogWords states)) (now (threads .entry))) ⌝ }
@@ -61,7 +61,8 @@ fn put_words(words: &mut [u16; 32], from: usize, states: u16, line: usize)
 fn put_values(values: &mut [u64; 32], from: usize, states: u16, working: &[u64], line: usize)
     requires { ⌜ 8 * line + 8 ≤ length (now working) ⌝ }
     ensures { λ _. ⌜ (length (now (values .entry)) ≡ 32
-        → now (values .exit) ≡ placed from (map (valuesIn (now (working .entry)) line) (ulogWords states)) (now (values .entry))) ⌝ }
+        → now (values .exit) ≡ placed from (map (valuesIn (now (working .entry)) line) (ulogWords states)) (now
+        (values .entry))) ⌝ }
 {
     let mut at = least(from, 32);
     let mut j = 0;
@@ -74,8 +75,8 @@ fn put_values(values: &mut [u64; 32], from: usize, states: u16, working: &[u64],
     }
 }
 
-// The threads of the redo buffer's 32 places after an eviction: of `len` entries the `gone` oldest are taken, then one is added for each ULog
-// word of the line, by the line's states.
+// The threads of the redo buffer's 32 places after an eviction: of `len` entries the `gone` oldest are taken, then one
+// is added for each ULog word of the line, by the line's states.
 pub fn refill_threads(threads: &mut [u8; 32], len: usize, gone: usize, states: u16, holder: u8)
     ensures { λ _. ⌜ (length (now (threads .entry)) ≡ 32
         → now (threads .exit) ≡ refilled (λ _. holder) len gone states (now (threads .entry))) ⌝ }
@@ -89,7 +90,8 @@ pub fn refill_threads(threads: &mut [u8; 32], len: usize, gone: usize, states: u
 // The words. There are 64 lines.
 pub fn refill_words(words: &mut [u16; 32], len: usize, gone: usize, states: u16, line: usize)
     ensures { λ _. ⌜ (length (now (words .entry)) ≡ 32
-        → now (words .exit) ≡ cond (ltb line 64) (refilled (wordsIn line) len gone states (now (words .entry))) (now (words .entry))) ⌝ }
+        → now (words .exit) ≡ cond (ltb line 64) (refilled (wordsIn line) len gone states (now (words .entry))) (now
+        (words .entry))) ⌝ }
 {
     if 64 <= line {
         return;
@@ -110,7 +112,8 @@ pub fn refill_redos(
     line: usize,
 )
     ensures { λ _. ⌜ (length (now (redos .entry)) ≡ 32 → now (redos .exit)
-        ≡ cond (ltb line (length (now (working .entry)) / 8)) (refilled (valuesIn (now (working .entry)) line) len gone states (now (redos .entry)))
+        ≡ cond (ltb line (length (now (working .entry)) / 8)) (refilled (valuesIn (now
+        (working .entry)) line) len gone states (now (redos .entry)))
         (now (redos .entry))) ⌝ }
 {
     if working.len() / 8 <= line {

@@ -10,7 +10,8 @@ ghost use Rattle.parts.specs.Entries.{indexOf};
 // The place of the oldest of `len` entries of a word, by the words of the entries; without one, their number.
 pub fn find(words: &[u16], len: usize, word: u16) -> usize
     ensures { λ r. ⌜ ((threads undos redos : List ℕ)
-        → r ≡ indexOf word (waitingOf (min len (length (now (words .entry)))) threads (now (words .entry)) undos redos)) ⌝ }
+        → r ≡ indexOf word (waitingOf (min len (length (now (words .entry)))) threads (now
+        (words .entry)) undos redos)) ⌝ }
 {
     let end = least(len, words.len());
     let mut i = 0;

@@ -5,8 +5,8 @@ use log::NUMBERS;
 use log::Record;
 use parts::least;
 
-// Appends the redo records of the `count` oldest entries, the first as record `number`. Of a length over 32, which no redo buffer has,
-// nothing is appended.
+// Appends the redo records of the `count` oldest entries, the first as record `number`. Of a length over 32, which no
+// redo buffer has, nothing is appended.
 pub fn append_redos<'a>(
     log: &mut [u64],
     number: u64,
@@ -18,7 +18,8 @@ pub fn append_redos<'a>(
     supply: u64,
 ) -> u64
     ensures { λ r. ⌜ Stored supply (now (log .entry)) number
-        (redoRecordsOf count len (now (threads .entry)) (now (words .entry)) (now (redos .entry))) (now (log .exit)) r ⌝ }
+        (redoRecordsOf count len (now (threads .entry)) (now (words .entry)) (now (redos .entry))) (now
+        (log .exit)) r ⌝ }
 {
     if (NUMBERS <= number) | (32 < len) {
         return supply;

@@ -5,8 +5,8 @@ use log::NUMBERS;
 use log::Record;
 use parts::least;
 
-// Appends the records of the `count` oldest entries, the first as record `number`. Of a length over 16, which no undo+redo buffer has,
-// nothing is appended.
+// Appends the records of the `count` oldest entries, the first as record `number`. Of a length over 16, which no
+// undo+redo buffer has, nothing is appended.
 pub fn append_undos<'a>(
     log: &mut [u64],
     number: u64,
@@ -19,7 +19,8 @@ pub fn append_undos<'a>(
     supply: u64,
 ) -> u64
     ensures { λ r. ⌜ Stored supply (now (log .entry)) number
-        (undoRecordsOf count len (now (threads .entry)) (now (words .entry)) (now (undos .entry)) (now (redos .entry))) (now (log .exit)) r ⌝ }
+        (undoRecordsOf count len (now (threads .entry)) (now (words .entry)) (now (undos .entry)) (now
+        (redos .entry))) (now (log .exit)) r ⌝ }
 {
     if (NUMBERS <= number) | (16 < len) {
         return supply;

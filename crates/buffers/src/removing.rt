@@ -1,4 +1,5 @@
-// Elements taken out of an array: of the first `len`, `gone` from place `at` on, so that those behind them move down. A function for each width.
+// Elements taken out of an array: of the first `len`, `gone` from place `at` on, so that those behind them move down. A
+// function for each width.
 use parts::least;
 use parts::less;
 ghost use mathlib.Core.Path.{_≡_};

@@ -1,5 +1,5 @@
--- The test of a consistent state in time linear in lines and entries: each entry is looked at once, and its word marked, so that a
--- second entry of the same word is noticed.
+-- The test of a consistent state in time linear in lines and entries: each entry is looked at once, and its word
+-- marked, so that a second entry of the same word is noticed.
 use Prim.Native.Nat.{ℕ, zero, suc, _+_, _/_, _%_, _^_, _<_}
 use mathlib.Core.Path.{_≡_}
 use mathlib.Core.Bool.{Bool, true, false, _&&_, _||_, not}
@@ -81,12 +81,15 @@ redosWait words ls es = eachWaits Clean ULog words ls es
 
 unfoldable pub linear : Machine → Bool
 linear m =
-    inLimits (m .sizes .words) (m .sizes .slots) (m .span .head) (m .span .tail) (length (m .buffers .undoRedo)) (length (m .buffers .redo)) &&
+    inLimits (m .sizes .words) (m .sizes .slots) (m .span .head) (m .span .tail) (length (m .buffers .undoRedo))
+    (length (m .buffers .redo)) &&
     (all (lineSound (m .opened)) (m .lines) &&
-    (undosWait (m .sizes .words) (m .lines) (m .buffers .undoRedo) && redosWait (m .sizes .words) (m .lines) (m .buffers .redo)))
+    (undosWait (m .sizes .words) (m .lines) (m .buffers .undoRedo) && redosWait (m .sizes .words) (m .lines)
+    (m .buffers .redo)))
 
 -- What a walk over entries finds: whether each waits, and if so their words are marked in the states that it leaves.
-pub record Walked (wanted next words : ℕ) (holders before : List ℕ) (es : List Entry) (r : Bool) (after : List ℕ) : Type 0 where
+pub record Walked (wanted next words : ℕ) (holders before : List ℕ) (es : List Entry) (r : Bool)
+    (after : List ℕ) : Type 0 where
   pub size : length after ≡ length before
   pub each : r ≡ eachWaits wanted next words (linesLent (words / 8) holders before) es
   pub lines : r ≡ true → linesLent (words / 8) holders after ≡ allMarked next (linesLent (words / 8) holders before) es

@@ -44,7 +44,8 @@ pub(crate) fn lines_sound<'a>(
     states: &'a [u16; 64],
 ) -> bool
     requires { ⌜ count ≤ 64 ⌝ }
-    ensures { λ r. ⌜ r ≡ all (lineSound (now (opened .entry))) (linesLent count (now (holders .entry)) (now (states .entry))) ⌝ }
+    ensures { λ r. ⌜ r ≡ all (lineSound (now (opened .entry))) (linesLent count (now (holders .entry)) (now
+        (states .entry))) ⌝ }
 {
     let bits = open_bits(opened);
     let mut sound = true;

@@ -1,4 +1,5 @@
-// Refusal 3: whether a state is consistent, the contrary of document 01's "unsound", in time linear in lines and entries.
+// Refusal 3: whether a state is consistent, the contrary of document 01's "unsound", in time linear in lines and
+// entries.
 ghost use mathlib.Core.Path.{_≡_};
 ghost use Prim.Native.Nat.{_/_};
 ghost use Rattle.model.specs.Consistent.{consistent};
@@ -13,7 +14,8 @@ mod holding;
 mod limits;
 mod waiting_entries;
 
-// The state is consistent. Lent are the parts that the clauses look at: of the lines, and of the entries in the two buffers.
+// The state is consistent. Lent are the parts that the clauses look at: of the lines, and of the entries in the two
+// buffers.
 pub fn is_consistent<'a>(
     words: u16,
     slots: u16,

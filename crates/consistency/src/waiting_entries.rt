@@ -64,7 +64,8 @@ fn each_waits<'a>(
     true
 }
 
-// The undo+redo entries wait for Dirty words, and none of these is without an entry. If so, their words are marked in the states.
+// The undo+redo entries wait for Dirty words, and none of these is without an entry. If so, their words are marked in
+// the states.
 fn undos_wait<'a>(
     words: u16,
     holders: &'a [u8; 64],

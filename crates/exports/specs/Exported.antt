@@ -5,7 +5,8 @@ use Rattle.model.specs.Machine.{Memory}
 use Rattle.state.specs.View.{memory}
 use Rattle.runner.specs.Running.{Report}
 
--- a run's report but for the state, which stays here: the answer, the three buffers, and the answer and the stores of each step
+-- a run's report but for the state, which stays here: the answer, the three buffers, and the answer and the stores of
+-- each step
 pub record Exported : Type 0 where
   pub answer : ℕ
   pub memory : Memory

@@ -6,7 +6,8 @@ ghost use Rattle.runner.specs.Running.{script, runOf};
 ghost use Rattle.exports.specs.Exported.{exported, exportOf};
 use machine::State;
 
-// Runs a list of steps as `runner::run` does, from the lost state. Each slice is passed as a pointer and a length; no two may overlap.
+// Runs a list of steps as `runner::run` does, from the lost state. Each slice is passed as a pointer and a length; no
+// two may overlap.
 #[no_mangle]
 pub extern "C" fn rukwetid_run(
     home: &mut [u64],
@@ -22,7 +23,8 @@ pub extern "C" fn rukwetid_run(
 ) -> u64
     ensures { λ r. ⌜
         exported r (now (home .exit)) (now (working .exit)) (now (log .exit)) (now (answers .exit)) (now (stores .exit))
-        ≡ exportOf (runOf (script (now (kinds .entry)) (now (threads .entry)) (now (places .entry)) (now (values .entry)) (now (supplies .entry)))
+        ≡ exportOf (runOf (script (now (kinds .entry)) (now (threads .entry)) (now (places .entry)) (now
+        (values .entry)) (now (supplies .entry)))
         lostMachine (memory (now (home .entry)) (now (working .entry)) (now (log .entry)))
         (now (answers .entry)) (now (stores .entry)))
         ⌝ }

@@ -18,7 +18,8 @@ linesOf holders dirty states = record { holders = holders; dirty = dirty; states
 
 -- those among the first n words of line i, which is held by h
 unfoldable pub newestInLine : ℕ → ℕ → ℕ → ℕ → ℕ → List ℕ
-newestInLine t i h states n = cond (eqb h t) (map (λ j. 8 * i + j) (keep (λ j. eqb (stateAt states j) ULog) (upTo n))) []
+newestInLine t i h states n = cond (eqb h t) (map (λ j. 8 * i + j) (keep (λ j. eqb (stateAt states j) ULog)
+    (upTo n))) []
 
 -- a word, if it is ULog
 abbrev pub ulogWord : ℕ → ℕ → List ℕ

@@ -28,7 +28,8 @@ pub fn has_dirty(states: u16) -> bool
 // Stores a line's working words home under the supply. Hands back what is left of it.
 pub fn store_line(home: &mut [u64], working: &[u64], line: usize, supply: u64) -> u64
     ensures { λ r. ⌜ r ≡ supply - length (lineStores (now (working .entry)) line) ⌝ }
-    ensures { λ r. ⌜ now (home .exit) ≡ storedUnder supply (now (home .entry)) (lineStores (now (working .entry)) line) ⌝ }
+    ensures { λ r. ⌜ now (home .exit) ≡ storedUnder supply (now (home .entry)) (lineStores (now
+        (working .entry)) line) ⌝ }
 {
     if working.len() / 8 <= line {
         return supply;

@@ -1,5 +1,5 @@
-// The lines, and what is done to them: the two-bit states of their words read and replaced, ULog and Dirty words looked for,
-// lines stored home and released. Each function takes every input; what is no line or word changes nothing.
+// The lines, and what is done to them: the two-bit states of their words read and replaced, ULog and Dirty words looked
+// for, lines stored home and released. Each function takes every input; what is no line or word changes nothing.
 ghost use mathlib.Core.Path.{_≡_};
 ghost use Rattle.lines.specs.Lines.{freeLines};
 

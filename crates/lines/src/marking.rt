@@ -7,10 +7,12 @@ ghost use Rattle.lines.specs.Walks.{allMarked};
 use crate::UR_LOG;
 use parts::least;
 
-// The state of a word replaced, in the states of all 64 lines. There are four states; a word past the last line has none.
+// The state of a word replaced, in the states of all 64 lines. There are four states; a word past the last line has
+// none.
 pub fn mark(states: &mut [u16; 64], word: u16, state: u64)
     ensures { λ _. ⌜ (length (now (states .entry)) ≡ 64 → now (states .exit)
-        ≡ set (now (states .entry)) (word / 8) (withState (getD (now (states .entry)) (word / 8) 0) (word % 8) (state % 4))) ⌝ }
+        ≡ set (now (states .entry)) (word / 8) (withState (getD (now (states .entry)) (word / 8) 0) (word % 8)
+        (state % 4))) ⌝ }
 {
     let at = (word / 8) as usize;
     if at < 64 {
@@ -18,7 +20,8 @@ pub fn mark(states: &mut [u16; 64], word: u16, state: u64)
     }
 }
 
-// The words of the `count` oldest undo+redo entries become URLog, in the states of all 64 lines; `words` are those of the entries.
+// The words of the `count` oldest undo+redo entries become URLog, in the states of all 64 lines; `words` are those of
+// the entries.
 pub fn mark_logged(states: &mut [u16; 64], words: &[u16; 16], count: usize)
     ensures { λ _. ⌜ (length (now (states .entry)) ≡ 64 → length (now (words .entry)) ≡ 16 → now (states .exit)
         ≡ allMarked (take count (now (words .entry))) (now (states .entry))) ⌝ }

@@ -35,7 +35,8 @@ pub fn release_holders(holders: &mut [u8; 64], n: usize, thread: u8)
 
 // The states of these lines; `holders` are those before the commit.
 pub fn release_states(states: &mut [u16; 64], holders: &[u8; 64], n: usize, thread: u8)
-    ensures { λ _. ⌜ now (states .exit) ≡ replacedTo (freedStates thread (now (holders .entry))) (min n 64) (now (states .entry)) ⌝ }
+    ensures { λ _. ⌜ now (states .exit) ≡ replacedTo (freedStates thread (now (holders .entry))) (min n 64) (now
+        (states .entry)) ⌝ }
 {
     let end = least(n, 64);
     let mut i = 0;

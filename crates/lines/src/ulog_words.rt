@@ -48,7 +48,8 @@ pub fn count_newest<'a>(
     thread: u64,
 ) -> usize
     ensures { λ r. ⌜ ((dirty : List Bool) → r
-        ≡ length (newestWords (firstLines (min n 64) (linesOf (now (holders .entry)) dirty (now (states .entry)))) thread (8 * min n 64))) ⌝ }
+        ≡ length (newestWords (firstLines (min n 64) (linesOf (now (holders .entry)) dirty (now
+        (states .entry)))) thread (8 * min n 64))) ⌝ }
 {
     let end = least(n, 64);
     let mut count = 0;

@@ -1,5 +1,5 @@
-// The log region: records written to the layout of document 01 and read back from it, whether one is there, and the head.
-// What the crates above know of it are its laws on the list of records that a region holds (proofs/).
+// The log region: records written to the layout of document 01 and read back from it, whether one is there, and the
+// head. What the crates above know of it are its laws on the list of records that a region holds (proofs/).
 mod region;
 mod slot;
 
@@ -12,7 +12,8 @@ pub use region::set_head;
 pub use region::slots;
 pub use slot::store;
 
-// A log record by its type. Every value has a layout; one with a thread above 7 or a word not below W reads back as bad.
+// A log record by its type. Every value has a layout; one with a thread above 7 or a word not below W reads back as
+// bad.
 pub enum Record {
     UndoRedo {
         thread: u8,

@@ -36,7 +36,8 @@ pub fn head(log: &[u64]) -> u64
 // Makes `number` the head, by one store. Hands back what is left of the supply.
 pub fn set_head(log: &mut [u64], number: u64, supply: u64) -> u64
     ensures { λ r. ⌜ r ≡ supply - length (headStores (slotsOf (now (log .entry))) number) ⌝ }
-    ensures { λ r. ⌜ now (log .exit) ≡ storedUnder supply (now (log .entry)) (headStores (slotsOf (now (log .entry))) number) ⌝ }
+    ensures { λ r. ⌜ now (log .exit) ≡ storedUnder supply (now (log .entry)) (headStores (slotsOf (now
+        (log .entry))) number) ⌝ }
 {
     if slots(log) == 0 {
         return supply;
@@ -60,11 +61,12 @@ fn torn_bit(slots: u64, number: u64) -> u64
     1 - number / slots % 2
 }
 
-// Appends a record under its number: the slot's part of the log, three words from 1+3s on, is lent to the record writer.
-// Hands back what is left of the supply.
+// Appends a record under its number: the slot's part of the log, three words from 1+3s on, is lent to the record
+// writer. Hands back what is left of the supply.
 pub fn append(log: &mut [u64], number: u64, entry: Record, supply: u64) -> u64
     ensures { λ r. ⌜ r ≡ supply - length (recordStores (slotsOf (now (log .entry))) number entry) ⌝ }
-    ensures { λ r. ⌜ now (log .exit) ≡ storedUnder supply (now (log .entry)) (recordStores (slotsOf (now (log .entry))) number entry) ⌝ }
+    ensures { λ r. ⌜ now (log .exit) ≡ storedUnder supply (now (log .entry)) (recordStores (slotsOf (now
+        (log .entry))) number entry) ⌝ }
 {
     let l = slots(log);
     if (l == 0) | (NUMBERS <= number) {

@@ -10,7 +10,8 @@ use crate::Record;
 // One store under the supply: made if any is left, and counted off. A place past the end takes none.
 pub fn store(region: &mut [u64], at: usize, value: u64, supply: u64) -> u64
     ensures { λ r. ⌜ r ≡ supply - 1 ⌝ }
-    ensures { λ r. ⌜ now (region .exit) ≡ storedUnder supply (now (region .entry)) (record { at = at; value = value } ∷ []) ⌝ }
+    ensures { λ r. ⌜ now (region .exit) ≡ storedUnder supply (now (region .entry))
+        (record { at = at; value = value } ∷ []) ⌝ }
 {
     if supply == 0 {
         return 0;
@@ -90,8 +91,8 @@ fn header_of(entry: Record, torn: u64) -> u64
     }
 }
 
-// Lent the three words of a slot: stores undo, redo and header in this order, as many as the supply allows, and hands back
-// what is left of it.
+// Lent the three words of a slot: stores undo, redo and header in this order, as many as the supply allows, and hands
+// back what is left of it.
 pub(crate) fn write(slot: &mut [u64], entry: Record, torn: u64, supply: u64) -> u64
     requires { ⌜ torn < 2 ⌝ }
     ensures { λ r. ⌜ r ≡ supply - 3 ⌝ }

@@ -1,5 +1,5 @@
-// The step machine of document 01: its state, with a method for each of the nine steps and one for a step given as a value. Each hands
-// back what the model's definition of the step gives.
+// The step machine of document 01: its state, with a method for each of the nine steps and one for a step given as a
+// value. Each hands back what the model's definition of the step gives.
 use state::Fields;
 
 mod methods;

@@ -4,7 +4,8 @@ ghost use Prim.Native.Nat.{ℕ};
 ghost use lib.ListN.{length};
 ghost use Rattle.log.specs.Region.{slotsOf};
 ghost use Rattle.model.specs.Machine.{Memory, lostMachine};
-ghost use Rattle.model.specs.Step.{begin, store, logUndo, logRedo, evict, writeBack, commit, deleteOldest, recover, stepped};
+ghost use Rattle.model.specs.Step.{begin, store, logUndo, logRedo, evict, writeBack};
+ghost use Rattle.model.specs.Step.{commit, deleteOldest, recover, stepped};
 ghost use Rattle.state.specs.View.{memory};
 ghost use Rattle.machine.specs.View.{view, shown, shownBegun, opening};
 ghost use Rattle.machine.specs.View.{lostState, freshState, takenState, HandedBack};
@@ -16,7 +17,14 @@ use state::Made;
 
 // What a step made, with the state around its fields.
 fn answer(made: Made) -> Answer
-    ensures { λ (r : Answer). ⌜ r ≡ record { answer = made .answer; left = made .left; state = record { fields = made .state } } ⌝ }
+    ensures { λ (r : Answer). ⌜ r ≡ record {
+      answer = made .answer;
+      left = made .left;
+      state = record {
+        fields = made
+            .state;
+      };
+    } ⌝ }
 {
     let fields = made.state;
     Answer {
@@ -82,7 +90,8 @@ impl State {
         value: u64,
     ) -> Answer
         ensures { λ (r : Answer). ⌜ shown r (now (home .exit)) (now (working .exit)) (now (log .exit))
-            ≡ stepped (store thread word value) supply (view self) (memory (now (home .entry)) (now (working .entry)) (now (log .entry))) ⌝ }
+            ≡ stepped (store thread word value) supply (view self) (memory (now (home .entry)) (now (working .entry))
+            (now (log .entry))) ⌝ }
         ensures { λ (r : Answer). ⌜ HandedBack self r ⌝ }
     {
         self.step(
@@ -106,7 +115,8 @@ impl State {
         supply: u64,
     ) -> Answer
         ensures { λ (r : Answer). ⌜ shown r (now (home .exit)) (now (working .exit)) (now (log .exit))
-            ≡ stepped logUndo supply (view self) (memory (now (home .entry)) (now (working .entry)) (now (log .entry))) ⌝ }
+            ≡ stepped logUndo supply (view self) (memory (now (home .entry)) (now (working .entry)) (now
+            (log .entry))) ⌝ }
         ensures { λ (r : Answer). ⌜ HandedBack self r ⌝ }
     {
         self.step(Step::LogUndo, home, working, log, supply)
@@ -120,7 +130,8 @@ impl State {
         supply: u64,
     ) -> Answer
         ensures { λ (r : Answer). ⌜ shown r (now (home .exit)) (now (working .exit)) (now (log .exit))
-            ≡ stepped logRedo supply (view self) (memory (now (home .entry)) (now (working .entry)) (now (log .entry))) ⌝ }
+            ≡ stepped logRedo supply (view self) (memory (now (home .entry)) (now (working .entry)) (now
+            (log .entry))) ⌝ }
         ensures { λ (r : Answer). ⌜ HandedBack self r ⌝ }
     {
         self.step(Step::LogRedo, home, working, log, supply)
@@ -136,7 +147,8 @@ impl State {
         line: u64,
     ) -> Answer
         ensures { λ (r : Answer). ⌜ shown r (now (home .exit)) (now (working .exit)) (now (log .exit))
-            ≡ stepped (evict line) supply (view self) (memory (now (home .entry)) (now (working .entry)) (now (log .entry))) ⌝ }
+            ≡ stepped (evict line) supply (view self) (memory (now (home .entry)) (now (working .entry)) (now
+            (log .entry))) ⌝ }
         ensures { λ (r : Answer). ⌜ HandedBack self r ⌝ }
     {
         self.step(Step::Evict { line }, home, working, log, supply)
@@ -152,7 +164,8 @@ impl State {
         line: u64,
     ) -> Answer
         ensures { λ (r : Answer). ⌜ shown r (now (home .exit)) (now (working .exit)) (now (log .exit))
-            ≡ stepped (writeBack line) supply (view self) (memory (now (home .entry)) (now (working .entry)) (now (log .entry))) ⌝ }
+            ≡ stepped (writeBack line) supply (view self) (memory (now (home .entry)) (now (working .entry)) (now
+            (log .entry))) ⌝ }
         ensures { λ (r : Answer). ⌜ HandedBack self r ⌝ }
     {
         self.step(Step::WriteBack { line }, home, working, log, supply)
@@ -167,7 +180,8 @@ impl State {
         thread: u64,
     ) -> Answer
         ensures { λ (r : Answer). ⌜ shown r (now (home .exit)) (now (working .exit)) (now (log .exit))
-            ≡ stepped (commit thread) supply (view self) (memory (now (home .entry)) (now (working .entry)) (now (log .entry))) ⌝ }
+            ≡ stepped (commit thread) supply (view self) (memory (now (home .entry)) (now (working .entry)) (now
+            (log .entry))) ⌝ }
         ensures { λ (r : Answer). ⌜ HandedBack self r ⌝ }
     {
         self.step(Step::Commit { thread }, home, working, log, supply)
@@ -182,7 +196,8 @@ impl State {
         supply: u64,
     ) -> Answer
         ensures { λ (r : Answer). ⌜ shown r (now (home .exit)) (now (working .exit)) (now (log .exit))
-            ≡ stepped deleteOldest supply (view self) (memory (now (home .entry)) (now (working .entry)) (now (log .entry))) ⌝ }
+            ≡ stepped deleteOldest supply (view self) (memory (now (home .entry)) (now (working .entry)) (now
+            (log .entry))) ⌝ }
         ensures { λ (r : Answer). ⌜ HandedBack self r ⌝ }
     {
         self.step(Step::DeleteOldest, home, working, log, supply)
@@ -191,10 +206,12 @@ impl State {
     // Takes no state. A recovery that is refused hands back the state that was lost.
     pub fn recover(home: &mut [u64], working: &mut [u64], log: &mut [u64], supply: u64) -> Answer
         ensures { λ (r : Answer). ⌜ shown r (now (home .exit)) (now (working .exit)) (now (log .exit))
-            ≡ stepped recover supply lostMachine (memory (now (home .entry)) (now (working .entry)) (now (log .entry))) ⌝ }
+            ≡ stepped recover supply lostMachine (memory (now (home .entry)) (now (working .entry)) (now
+            (log .entry))) ⌝ }
         ensures { λ (r : Answer). ⌜ HandedBack lostState r ⌝ }
         ensures { λ (r : Answer). ⌜ (r .answer ≡ 0
-            → r .state ≡ freshState (length (now (home .entry))) (slotsOf (now (log .entry))) (r .state .fields .tail)) ⌝ }
+            → r .state ≡ freshState (length (now (home .entry))) (slotsOf (now (log .entry)))
+            (r .state .fields .tail)) ⌝ }
     {
         answer(recovery::recover(home, working, log, supply))
     }

@@ -6,7 +6,8 @@ use mathlib.Core.List.{List, [], _∷_, _++_}
 use lib.Dec.{eqb}
 use lib.ListN.{getD}
 use Rattle.log.specs.Stores.{Store}
-use Rattle.model.specs.Step.{Step, begin, store, logUndo, logRedo, evict, writeBack, commit, deleteOldest, recover}
+use Rattle.model.specs.Step.{Step, begin, store, logUndo, logRedo, evict}
+use Rattle.model.specs.Step.{writeBack, commit, deleteOldest, recover}
 
 -- one committed value for each home word, and for each thread its stores, first to last
 pub record Book : Type 0 where

@@ -1,4 +1,5 @@
--- Document 01, "A state is unsound if ..": here its contrary, a consistent state, clause by clause in the paper's order.
+-- Document 01, "A state is unsound if ..": here its contrary, a consistent state, clause by clause in the paper's
+-- order.
 use Prim.Native.Nat.{ℕ, _+_, _%_, _^_}
 use mathlib.Core.Bool.{Bool, _&&_, _||_, not}
 use mathlib.Core.List.{List}

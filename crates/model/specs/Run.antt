@@ -61,8 +61,8 @@ pub record Sized (l : ℕ) (home working : List ℕ) : Type 0 where
   pub least : 8 ≤ l
   pub most : l ≤ 1024
 
--- THE CLAIM. On every width and number of slots within the limits, for all home and working words, and for every list of steps with
--- their supplies that begins with a recovery: after every recovery answered done, home equals the book.
+-- THE CLAIM. On every width and number of slots within the limits, for all home and working words, and for every list
+-- of steps with their supplies that begins with a recovery: after every recovery answered done, home equals the book.
 abbrev pub WholeListClaim : Type 0
 WholeListClaim =
     (l : ℕ) (home working : List ℕ) → Sized l home working → (m : Machine) (c : ℕ) (steps : List Timed)
@@ -83,10 +83,11 @@ unfoldable pub storesOf : World → List Timed → List ℕ
 storesOf w [] = []
 storesOf w (s ∷ ss) = (s .supply - outcome w s .left) ∷ storesOf (after w s) ss
 
--- What shows that the claim is not empty, of the world after any such list: a recovery is done or cut and never refused, it is done with
--- a supply of L+1, and the state handed back last is lost or consistent.
+-- What shows that the claim is not empty, of the world after any such list: a recovery is done or cut and never
+-- refused, it is done with a supply of L+1, and the state handed back last is lost or consistent.
 pub record Recoverable (l : ℕ) (w : World) : Type 0 where
-  pub never-refused : (c : ℕ) → let o = outcome w (record { step = recover; supply = c }) in (o .answer ≡ done) ⊎ (o .answer ≡ cut)
+  pub never-refused : (c : ℕ) → let o = outcome w (record { step = recover; supply = c }) in (o .answer
+      ≡ done) ⊎ (o .answer ≡ cut)
   pub done-with : (c : ℕ) → l + 1 ≤ c → outcome w (record { step = recover; supply = c }) .answer ≡ done
   pub sound : (w .machine .lost ≡ true) ⊎ (consistentWith (w .machine) (w .memory .log) ≡ true)
 

@@ -1,5 +1,6 @@
--- Document 01, "Benches to try": P1 to P11 as a table of worked scenarios, each with all that the paper says of it; after them a scenario for
--- each entry of "Plausible, and wrong" and for the edges of the supply, the free slots and a delete.
+-- Document 01, "Benches to try": P1 to P11 as a table of worked scenarios, each with all that the paper says of it;
+-- after them a scenario for each entry of "Plausible, and wrong" and for the edges of the supply, the free slots and a
+-- delete.
 use Prim.Native.Nat.{ℕ, _+_, _-_, _*_, _^_}
 use mathlib.Core.Bool.{Bool, true, false, _&&_}
 use mathlib.Core.List.{List, [], _∷_, _++_}
@@ -18,8 +19,8 @@ pub record Line : Type 0 where
   pub answer : ℕ
   pub stores : ℕ
 
--- the log's head at first, the steps, and what is expected at the end: words of the log by their place, word 0 of home and
--- of working; their other seven words are 0
+-- the log's head at first, the steps, and what is expected at the end: words of the log by their place, word 0 of home
+-- and of working; their other seven words are 0
 pub record Scenario : Type 0 where
   pub head : ℕ
   pub steps : List Line
@@ -77,7 +78,8 @@ headIs n = record { at = 0; value = n }
 
 abbrev pub slotIs : ℕ → ℕ → ℕ → ℕ → List Store
 slotIs s u r h =
-    record { at = 1 + 3 * s; value = u } ∷ record { at = 2 + 3 * s; value = r } ∷ record { at = 3 + 3 * s; value = h } ∷ []
+    record { at = 1 + 3 * s; value = u } ∷ record { at = 2 + 3 * s; value = r } ∷ record { at = 3 + 3 * s; value = h }
+    ∷ []
 
 -- "recovered"
 abbrev pub recovered : Line
@@ -97,8 +99,8 @@ p1 =
     ∷ record { head = 0; steps = under 0 recover 255 0 ∷ []; log = headIs 0 ∷ []; home = 0; working = 0 }
     ∷ []
 
--- "P2: begin, store 7, commit: 6 stores; slot 0 is 0, 7, 0500000000000000 and slot 1 ends in 0700000000000000 (hexadecimal).
--- Recover: 2 stores, home 7, head 2."
+-- "P2: begin, store 7, commit: 6 stores; slot 0 is 0, 7, 0500000000000000 and slot 1 ends in 0700000000000000
+-- (hexadecimal). Recover: 2 stores, home 7, head 2."
 abbrev pub p2 : List Scenario
 p2 =
     fresh (transaction 7) (slotIs 0 0 7 0x0500000000000000 ++ slotIs 1 0 0 0x0700000000000000) 0 7
@@ -119,7 +121,8 @@ twoStores = line (begin 0) 0 0 ∷ line (store 0 0 7) 0 0 ∷ line logUndo 0 3 �
 
 -- "P4: store 7, log undo, store 9, write home, commit (6 stores): recover makes 3 and leaves 9."
 abbrev pub p4 : List Scenario
-p4 = fresh (twoStores ++ (line (writeBack 0) 0 8 ∷ line (commit 0) 0 6 ∷ line recover 0 3 ∷ [])) (headIs 3 ∷ []) 9 9 ∷ []
+p4 = fresh (twoStores ++ (line (writeBack 0) 0 8 ∷ line (commit 0) 0 6 ∷ line recover 0 3 ∷ [])) (headIs 3 ∷ []) 9 9
+    ∷ []
 
 -- "P5: P4 without commit: 2 stores, 0."
 abbrev pub p5 : List Scenario
@@ -161,11 +164,12 @@ p9 =
 abbrev pub fourTransactions : List Line
 fourTransactions = transaction 1 ++ (transaction 2 ++ (transaction 3 ++ transaction 4))
 
--- "P10: storing 1, 2, 3, 4 in four transactions fills the log; a fifth storing 5: commit 10. Write home and two deletes before the
--- fifth: its headers are 0100000000000000 and 0300000000000000."
+-- "P10: storing 1, 2, 3, 4 in four transactions fills the log; a fifth storing 5: commit 10. Write home and two deletes
+-- before the fifth: its headers are 0100000000000000 and 0300000000000000."
 abbrev pub p10 : List Scenario
 p10 =
-    fresh (fourTransactions ++ (line (begin 0) 0 0 ∷ line (store 0 0 5) 0 0 ∷ line (commit 0) 10 0 ∷ [])) (headIs 0 ∷ []) 0 5
+    fresh (fourTransactions ++ (line (begin 0) 0 0 ∷ line (store 0 0 5) 0 0 ∷ line (commit 0) 10 0 ∷ [])) (headIs 0
+    ∷ []) 0 5
     ∷ fresh
     (fourTransactions ++
     (line (writeBack 0) 0 8 ∷ line deleteOldest 0 1 ∷ line deleteOldest 0 1 ∷ transaction 5))
@@ -192,13 +196,16 @@ p11 =
 -- equal home and working words of a line whose record is needed.
 abbrev pub plausible : List Scenario
 plausible =
-    fresh (twoStores ++ (line (evict 0) 0 0 ∷ line (writeBack 0) 0 8 ∷ line (commit 0) 0 6 ∷ line recover 0 3 ∷ [])) [] 9 9
+    fresh (twoStores ++ (line (evict 0) 0 0 ∷ line (writeBack 0) 0 8 ∷ line (commit 0) 0 6 ∷ line recover 0 3
+    ∷ [])) [] 9 9
     ∷ fresh
-    (twoStores ++ (line (evict 0) 0 0 ∷ line (store 0 0 11) 0 0 ∷ line (store 0 0 9) 0 0 ∷ line (commit 0) 0 6 ∷ line recover 0 3 ∷ []))
+    (twoStores ++ (line (evict 0) 0 0 ∷ line (store 0 0 11) 0 0 ∷ line (store 0 0 9) 0 0 ∷ line (commit 0) 0 6
+    ∷ line recover 0 3 ∷ []))
     []
     9
     9
-    ∷ fresh (transaction 7 ++ (line (begin 0) 0 0 ∷ line (store 0 0 0) 0 0 ∷ line deleteOldest 15 0 ∷ line recover 0 2 ∷ [])) [] 7 7
+    ∷ fresh (transaction 7 ++ (line (begin 0) 0 0 ∷ line (store 0 0 0) 0 0 ∷ line deleteOldest 15 0 ∷ line recover 0 2
+    ∷ [])) [] 7 7
     ∷ []
 
 -- a supply that is just enough, and one store less: the working words are wiped; an open transaction's record stays;
@@ -208,7 +215,8 @@ edges =
     fresh (commitUnder 6 0 6) [] 0 7
     ∷ fresh (commitUnder 5 255 5) [] 0 0
     ∷ fresh
-    (line (begin 0) 0 0 ∷ line (store 0 0 7) 0 0 ∷ line logUndo 0 3 ∷ line (writeBack 0) 0 8 ∷ line deleteOldest 15 0 ∷ line recover 0 2 ∷ [])
+    (line (begin 0) 0 0 ∷ line (store 0 0 7) 0 0 ∷ line logUndo 0 3 ∷ line (writeBack 0) 0 8 ∷ line deleteOldest 15 0
+    ∷ line recover 0 2 ∷ [])
     []
     0
     0

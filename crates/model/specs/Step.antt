@@ -6,7 +6,8 @@ use lib.ListN.{take, set}
 use Rattle.log.specs.declared.Record.{Record}
 -- the code's own steps, under the model's names
 pub use Rattle.parts.specs.declared.Step.{Step}
-pub use Rattle.parts.specs.declared.Step.the-variants.{Begin as begin, Store as store, LogUndo as logUndo, LogRedo as logRedo}
+pub use Rattle.parts.specs.declared.Step.the-variants.{Begin as begin, Store as store, LogUndo as logUndo}
+pub use Rattle.parts.specs.declared.Step.the-variants.{LogRedo as logRedo}
 pub use Rattle.parts.specs.declared.Step.the-variants.{Evict as evict, WriteBack as writeBack, Commit as commit}
 pub use Rattle.parts.specs.declared.Step.the-variants.{DeleteOldest as deleteOldest, Recover as recover}
 use Rattle.model.specs.Machine.{Machine, Memory, lostMachine}

@@ -15,8 +15,10 @@ use Rattle.parts.specs.Lines.{nobody}
 use Rattle.parts.specs.States.{Clean, Dirty, URLog, ULog}
 use Rattle.parts.specs.Entries.{discarded, amended}
 use Rattle.model.specs.Lists.{keep, upTo, isEmpty}
-use Rattle.model.specs.Machine.{Machine, Memory, noEntries, withHead, withTail, withOpened, withLines, withBuffers}
-use Rattle.model.specs.Machine.{withUndoRedo, withRedo, isOpen, wordsOf, lineOf, stateIn, holderIn, heldBy, dirtyAs}
+use Rattle.model.specs.Machine.{Machine, Memory, noEntries, withHead, withTail}
+use Rattle.model.specs.Machine.{withOpened, withLines, withBuffers}
+use Rattle.model.specs.Machine.{withUndoRedo, withRedo, isOpen, wordsOf, lineOf}
+use Rattle.model.specs.Machine.{stateIn, holderIn, heldBy, dirtyAs}
 use Rattle.model.specs.Machine.{statesAs, changed, marked, wordsMarked, allLogged}
 use Rattle.model.specs.Verdict.{verdict}
 use Rattle.model.specs.Refusals.{busy, held, pending, nothing, damaged, needed, Row, row}

@@ -1,7 +1,8 @@
 -- "Each word's state takes two bits of its line's 16-bit state, word 0 lowest".
 use Prim.Native.Nat.{ℕ, _+_, _-_, _*_, _/_, _%_, _^_}
 
--- "0 Clean, 1 Dirty (its entry waits in the undo+redo buffer), 2 URLog (undo and newest redo logged), 3 ULog (undo logged, newest redo not)"
+-- "0 Clean, 1 Dirty (its entry waits in the undo+redo buffer), 2 URLog (undo and newest redo logged), 3 ULog (undo
+-- logged, newest redo not)"
 abbrev pub Clean : ℕ
 Clean = 0
 

@@ -1,5 +1,5 @@
--- A recovery as its code goes: the refusals before the log is read, one reading of the log, then a pass forward and a pass backward
--- over the records read.
+-- A recovery as its code goes: the refusals before the log is read, one reading of the log, then a pass forward and a
+-- pass backward over the records read.
 use Prim.Native.Nat.{ℕ, _+_, _-_, _≤_, _<_}
 use mathlib.Core.Path.{_≡_}
 use mathlib.Core.Bool.{Bool, false, cond}
@@ -43,7 +43,8 @@ recordsFrom words log n tail = records (readFrom (tail - n) words log n)
 abbrev pub closedBy : List ℕ → ℕ → ℕ → Bool
 closedBy last n t = ltb n (getD last t 0)
 
--- A number for each thread, that of its last commit: a record of the thread is closed just where its own number is below that.
+-- A number for each thread, that of its last commit: a record of the thread is closed just where its own number is
+-- below that.
 abbrev pub Lasts : ℕ → List ℕ → ℕ → ℕ → List ℕ → Type 0
 Lasts words log head tail last =
     (t n : ℕ) → t < 8 → head ≤ n → n < tail → closedBy last n t ≡ closed t (recordsFrom words log (n + 1) tail)

@@ -28,7 +28,8 @@ fn is_closed(last: &[u64; 8], thread: u8, number: u64) -> bool
 
 // What a closed record stores: its redo.
 fn redo_at(log: &[u64], number: u64, words: u16, last: &[u64; 8]) -> Write
-    ensures { λ (r : Write). ⌜ writes r ≡ redoRead (closedBy (now (last .entry)) number) (readBack words (now (log .entry)) number) ⌝ }
+    ensures { λ (r : Write). ⌜ writes r ≡ redoRead (closedBy (now (last .entry)) number) (readBack words (now
+        (log .entry)) number) ⌝ }
 {
     let reading = log::read(log, number, words);
     match reading {
@@ -64,7 +65,8 @@ fn redo_at(log: &[u64], number: u64, words: u16, last: &[u64; 8]) -> Write
 
 // What an open record stores: the undo of an undo+redo record.
 fn undo_at(log: &[u64], number: u64, words: u16, last: &[u64; 8]) -> Write
-    ensures { λ (r : Write). ⌜ writes r ≡ undoRead (closedBy (now (last .entry)) number) (readBack words (now (log .entry)) number) ⌝ }
+    ensures { λ (r : Write). ⌜ writes r ≡ undoRead (closedBy (now (last .entry)) number) (readBack words (now
+        (log .entry)) number) ⌝ }
 {
     let reading = log::read(log, number, words);
     match reading {
@@ -126,7 +128,8 @@ fn redo_pass(
 ) -> u64
     requires { ⌜ Lasts words (now log) head tail (now last) ⌝ }
     ensures { λ r. ⌜ r ≡ supply - length (redoWrites (recordsFrom words (now (log .entry)) head tail)) ⌝ }
-    ensures { λ r. ⌜ now (home .exit) ≡ storedUnder supply (now (home .entry)) (redoWrites (recordsFrom words (now (log .entry)) head tail)) ⌝ }
+    ensures { λ r. ⌜ now (home .exit) ≡ storedUnder supply (now (home .entry)) (redoWrites (recordsFrom words (now
+        (log .entry)) head tail)) ⌝ }
 {
     let mut left = supply;
     let mut number = head;
@@ -150,7 +153,8 @@ fn undo_pass(
 ) -> u64
     requires { ⌜ (head ≤ tail) × Lasts words (now log) head tail (now last) ⌝ }
     ensures { λ r. ⌜ r ≡ supply - length (undoWrites (recordsFrom words (now (log .entry)) head tail)) ⌝ }
-    ensures { λ r. ⌜ now (home .exit) ≡ storedUnder supply (now (home .entry)) (undoWrites (recordsFrom words (now (log .entry)) head tail)) ⌝ }
+    ensures { λ r. ⌜ now (home .exit) ≡ storedUnder supply (now (home .entry)) (undoWrites (recordsFrom words (now
+        (log .entry)) head tail)) ⌝ }
 {
     let count = tail - head;
     let mut left = supply;
@@ -168,7 +172,8 @@ fn undo_pass(
 pub(crate) fn store_all(home: &mut [u64], log: &[u64], words: u16, found: Found, supply: u64) -> u64
     requires { ⌜ Scanned words (now log) found ⌝ }
     ensures { λ r. ⌜ r ≡ supply - length (recoveryWrites (records (recordsOf words (now (log .entry))))) ⌝ }
-    ensures { λ r. ⌜ now (home .exit) ≡ storedUnder supply (now (home .entry)) (recoveryWrites (records (recordsOf words (now (log .entry))))) ⌝ }
+    ensures { λ r. ⌜ now (home .exit) ≡ storedUnder supply (now (home .entry)) (recoveryWrites (records
+        (recordsOf words (now (log .entry))))) ⌝ }
 {
     let head = log::head(log);
     let tail = found.tail;

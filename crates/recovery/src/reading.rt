@@ -6,7 +6,8 @@ ghost use Rattle.recovery.specs.Recovering.{noted, Scanned};
 use log::Reading;
 use log::Record;
 
-// What the reading has found: the number of the next record, whether one was bad, and the number of each thread's last commit, or 0.
+// What the reading has found: the number of the next record, whether one was bad, and the number of each thread's last
+// commit, or 0.
 pub struct Found {
     pub tail: u64,
     pub last: [u64; 8],

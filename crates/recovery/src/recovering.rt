@@ -1,4 +1,5 @@
-// "Recover: takes no state": home is brought to the committed values by the log, and all else follows home and the log's tail.
+// "Recover: takes no state": home is brought to the committed values by the log, and all else follows home and the
+// log's tail.
 ghost use mathlib.Core.Path.{_≡_};
 ghost use lib.ListN.{length};
 ghost use Rattle.log.specs.Region.{slotsOf};
@@ -37,7 +38,8 @@ fn copy(to: &mut [u64], from: &[u64])
 
 // The number under which a recovery is refused before it reads the log, or 0.
 fn unreadable(home: &[u64], working: &[u64], log: &[u64]) -> u64
-    ensures { λ r. ⌜ r ≡ numberOf (unreadableRows (memory (now (home .entry)) (now (working .entry)) (now (log .entry)))) ⌝ }
+    ensures { λ r. ⌜ r ≡ numberOf (unreadableRows (memory (now (home .entry)) (now (working .entry)) (now
+        (log .entry)))) ⌝ }
 {
     if wrong_lengths(home, working, log) {
         return SIZE;
@@ -79,7 +81,8 @@ fn fresh_state(words: u16, slots: u16, tail: u64) -> Fields
 // A recovery: refused, cut or done. It takes no state.
 pub fn recover(home: &mut [u64], working: &mut [u64], log: &mut [u64], supply: u64) -> Made
     ensures { λ (r : Made). ⌜ shown r (now (home .exit)) (now (working .exit)) (now (log .exit))
-        ≡ stepped recoverStep supply lostMachine (memory (now (home .entry)) (now (working .entry)) (now (log .entry))) ⌝ }
+        ≡ stepped recoverStep supply lostMachine (memory (now (home .entry)) (now (working .entry)) (now
+        (log .entry))) ⌝ }
     ensures { λ (r : Made). ⌜ HandedBack lostFields r ⌝ }
     ensures { λ (r : Made). ⌜ (r .answer ≡ 0
         → r .state ≡ freshFields (length (now (home .entry))) (slotsOf (now (log .entry))) (r .state .tail)) ⌝ }

@@ -5,7 +5,8 @@ ghost use Rattle.recovery.specs.Replaying.{replayStores, replayed};
 use crate::passes::store_all;
 use crate::reading::scan;
 
-// What a replay hands back: whether a record read is bad, the number of the next record, and what is left of the supply.
+// What a replay hands back: whether a record read is bad, the number of the next record, and what is left of the
+// supply.
 pub struct Replayed {
     pub bad: bool,
     pub tail: u64,
@@ -15,7 +16,8 @@ pub struct Replayed {
 // A log with a bad record stores nothing.
 pub(crate) fn replay(home: &mut [u64], log: &[u64], words: u16, supply: u64) -> Replayed
     ensures { λ (r : Replayed). ⌜ r ≡ replayed words supply (now (log .entry)) ⌝ }
-    ensures { λ (r : Replayed). ⌜ now (home .exit) ≡ storedUnder supply (now (home .entry)) (replayStores words (now (log .entry))) ⌝ }
+    ensures { λ (r : Replayed). ⌜ now (home .exit)
+        ≡ storedUnder supply (now (home .entry)) (replayStores words (now (log .entry))) ⌝ }
 {
     let found = scan(log, words);
     let tail = found.tail;

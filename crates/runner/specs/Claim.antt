@@ -17,8 +17,8 @@ recovery c = record { step = recover; supply = c }
 abbrev pub freshMemory : ℕ → List ℕ → List ℕ → Memory
 freshMemory l home working = memory home working (replicate (1 + 3 * l) 0)
 
--- A run that made every step of a list that begins with a recovery, on buffers within their limits and a fresh log. p is
--- the report of which the contract of `run` speaks.
+-- A run that made every step of a list that begins with a recovery, on buffers within their limits and a fresh log. p
+-- is the report of which the contract of `run` speaks.
 pub record MadeRun (w : World) (s : Script) (p : Report) : Type 0 where
   pub slots : ℕ
   pub home : List ℕ

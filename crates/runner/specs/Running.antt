@@ -39,7 +39,11 @@ abbrev pub stepAt : List ℕ → List ℕ → List ℕ → List ℕ → ℕ → 
 stepAt kinds threads places values i = numbered (getD kinds i 0) (getD threads i 0) (getD places i 0) (getD values i 0)
 
 unfoldable pub timedAt : Script → ℕ → Timed
-timedAt s i = record { step = stepAt (s .kinds) (s .threads) (s .places) (s .values) i; supply = getD (s .supplies) i 0 }
+timedAt s i = record {
+  step = stepAt (s .kinds) (s .threads) (s .places) (s .values) i;
+  supply = getD
+      (s .supplies) i 0;
+}
 
 abbrev pub stepsOf : Script → List Timed
 stepsOf s = listed (length (s .kinds)) (timedAt s)
@@ -69,7 +73,14 @@ pub record Report : Type 0 where
 
 abbrev pub reported : Ran → List ℕ → List ℕ → List ℕ → List ℕ → List ℕ → Report
 reported r home working log answers stores =
-    record { answer = r .answer; machine = view (r .state); memory = memory home working log; answers = answers; stores = stores }
+    record {
+      answer = r .answer;
+      machine = view
+          (r .state);
+      memory = memory home working log;
+      answers = answers;
+      stores = stores;
+    }
 
 -- the state that the run goes on from, with a book opened on the home words
 abbrev pub atFirst : Machine → Memory → World

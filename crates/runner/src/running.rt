@@ -34,8 +34,10 @@ fn step_of(kind: u64, thread: u64, place: u64, value: u64) -> Step
 
 // The i-th step.
 fn step_at(kinds: &[u64], threads: &[u64], places: &[u64], values: &[u64], i: usize) -> Step
-    requires { ⌜ (i < length (now kinds)) × ((i < length (now threads)) × ((i < length (now places)) × (i < length (now values)))) ⌝ }
-    ensures { λ (r : Step). ⌜ r ≡ stepAt (now (kinds .entry)) (now (threads .entry)) (now (places .entry)) (now (values .entry)) i ⌝ }
+    requires { ⌜ (i < length (now kinds)) × ((i < length (now threads)) × ((i < length (now places))
+        × (i < length (now values)))) ⌝ }
+    ensures { λ (r : Step). ⌜ r ≡ stepAt (now (kinds .entry)) (now (threads .entry)) (now (places .entry)) (now
+        (values .entry)) i ⌝ }
 {
     step_of(kinds[i], threads[i], places[i], values[i])
 }
@@ -65,7 +67,8 @@ fn is_runnable(
     stores: &[u64],
 ) -> bool
     ensures { λ r. ⌜
-        r ≡ runnable (script (now (kinds .entry)) (now (threads .entry)) (now (places .entry)) (now (values .entry)) (now (supplies .entry)))
+        r ≡ runnable (script (now (kinds .entry)) (now (threads .entry)) (now (places .entry)) (now (values .entry))
+        (now (supplies .entry)))
         (now (answers .entry)) (now (stores .entry))
         ⌝ }
 {
@@ -77,9 +80,9 @@ fn is_runnable(
                     & ((answers.len() == n) & ((stores.len() == n) & known_kinds(kinds))))))
 }
 
-// Kind, thread, word or line, value and supply of each step are lent as slices of numbers; the answer of each and the stores that it
-// made are written to the last two. The first step takes `state`, the lost one or one that was handed back. Lengths that differ or a kind
-// above 8 give 1, and nothing is run.
+// Kind, thread, word or line, value and supply of each step are lent as slices of numbers; the answer of each and the
+// stores that it made are written to the last two. The first step takes `state`, the lost one or one that was handed
+// back. Lengths that differ or a kind above 8 give 1, and nothing is run.
 pub fn run(
     mut state: State,
     home: &mut [u64],
@@ -95,7 +98,8 @@ pub fn run(
 ) -> Ran
     ensures { λ (r : Ran). ⌜
         reported r (now (home .exit)) (now (working .exit)) (now (log .exit)) (now (answers .exit)) (now (stores .exit))
-        ≡ runOf (script (now (kinds .entry)) (now (threads .entry)) (now (places .entry)) (now (values .entry)) (now (supplies .entry)))
+        ≡ runOf (script (now (kinds .entry)) (now (threads .entry)) (now (places .entry)) (now (values .entry)) (now
+        (supplies .entry)))
         (view state) (memory (now (home .entry)) (now (working .entry)) (now (log .entry)))
         (now (answers .entry)) (now (stores .entry))
         ⌝ }

@@ -39,7 +39,8 @@ freshFields words slots tail =
       redos = emptyRedos;
     }
 
--- the state that a step starts from, and that it hands back if it is refused: "a refused recover hands back a dark state"
+-- the state that a step starts from, and that it hands back if it is refused: "a refused recover hands back a dark
+-- state"
 abbrev pub takenFields : Step → Fields → Fields
 takenFields s state = cond (takesState s) state lostFields
 

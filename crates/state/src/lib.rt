@@ -1,5 +1,5 @@
-// The state by its fields, what a step hands back, and what every step shares: the buffers that it is lent, the lost state and the way out
-// of a cut.
+// The state by its fields, what a step hands back, and what every step shares: the buffers that it is lent, the lost
+// state and the way out of a cut.
 use buffers::RedoBuffer;
 use buffers::UndoBuffer;
 use lines::Lines;
@@ -11,8 +11,8 @@ pub use memory::wrong_lengths;
 pub use ways_out::cut;
 pub use ways_out::lost;
 
-// A state by its fields. `lost` is document 01's "dark". `lines` and the buffers may have places that are not in use. Between two large arrays
-// stands a number, so that the compiler copies each by itself (docs/DECISIONS.md).
+// A state by its fields. `lost` is document 01's "dark". `lines` and the buffers may have places that are not in use.
+// Between two large arrays stands a number, so that the compiler copies each by itself (docs/DECISIONS.md).
 pub struct Fields {
     pub lost: bool,
     pub words: u16,

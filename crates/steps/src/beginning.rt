@@ -16,7 +16,8 @@ use state::THREAD;
 // The step, of a state that is neither lost nor inconsistent.
 pub(crate) fn begun(mut state: Fields, supply: u64, thread: u64) -> Made
     requires { ⌜ numberOf (stateRows (view state)) ≡ 0 ⌝ }
-    ensures { λ (r : Made). ⌜ ((mem : Memory) → shown r (mem .home) (mem .working) (mem .log) ≡ stepped (begin thread) supply (view state) mem) ⌝ }
+    ensures { λ (r : Made). ⌜ ((mem : Memory) → shown r (mem .home) (mem .working) (mem .log)
+        ≡ stepped (begin thread) supply (view state) mem) ⌝ }
     ensures { λ (r : Made). ⌜ HandedBack state r ⌝ }
 {
     let t = (thread % 8) as usize;

@@ -1,5 +1,5 @@
-// "Commit t: logs the whole undo+redo buffer, the whole redo buffer, then a redo record of the working value for each ULog word in
-// lines held by t, rising, then the commit record; .. lines held by t become unheld and all Clean".
+// "Commit t: logs the whole undo+redo buffer, the whole redo buffer, then a redo record of the working value for each
+// ULog word in lines held by t, rising, then the commit record; .. lines held by t become unheld and all Clean".
 ghost use mathlib.Core.Path.{_≡_};
 ghost use mathlib.Core.Bool.{false};
 ghost use mathlib.Core.List.{List};
@@ -47,17 +47,12 @@ fn count_records<'a>(
     (undos + redos + newest + 1) as u64
 }
 
-// The rows of a commit after the common ones. `opened` says whether the thread has an open transaction; the commit logs `count` records.
-fn commit_refusal(
-    opened: bool,
-    slots: u16,
-    head: u64,
-    tail: u64,
-    thread: u64,
-    count: u64,
-) -> u64
+// The rows of a commit after the common ones. `opened` says whether the thread has an open transaction; the commit logs
+// `count` records.
+fn commit_refusal(opened: bool, slots: u16, head: u64, tail: u64, thread: u64, count: u64) -> u64
     requires { ⌜ (head ≤ tail) × ((tail ≤ head + slots) × ((tail ≤ numbers) × (count ≤ 2048))) ⌝ }
-    ensures { λ r. ⌜ ((m : Machine) (mem : Memory) → getD (m .opened) (thread % 8) false ≡ opened → LogOf slots head tail m
+    ensures { λ r. ⌜ ((m : Machine) (mem : Memory) → getD (m .opened) (thread % 8) false ≡ opened
+        → LogOf slots head tail m
         → count ≡ length (commitRecords m mem thread) → r ≡ numberOf (commitRows m mem thread)) ⌝ }
 {
     refuse(
@@ -76,8 +71,10 @@ fn carry_out(
     thread: u64,
     count: u64,
 ) -> Made
-    requires { ⌜ (thread < 8) × ((state .words ≤ 512) × ((state .undos .len ≤ 16) × (state .tail + count ≤ numbers))) ⌝ }
-    ensures { λ (r : Made). ⌜ ((home : List ℕ) → Allowed thread count (view state) (memory home (now (working .entry)) (now (log .entry)))
+    requires { ⌜ (thread < 8) × ((state .words ≤ 512) × ((state .undos .len ≤ 16)
+        × (state .tail + count ≤ numbers))) ⌝ }
+    ensures { λ (r : Made). ⌜ ((home : List ℕ)
+        → Allowed thread count (view state) (memory home (now (working .entry)) (now (log .entry)))
         → (shown r home (now (working .exit)) (now (log .exit))
         ≡ stepped (commit thread) supply (view state) (memory home (now (working .entry)) (now (log .entry))))
         × HandedBack state r) ⌝ }
@@ -137,7 +134,8 @@ pub(crate) fn committed<'a>(
     requires { ⌜ TakenOut (now opened) (now holders) (now states) state ⌝ }
     requires { ⌜ numberOf (commonRows (view state) (memory (now home) (now working) (now log))) ≡ 0 ⌝ }
     ensures { λ (r : Made). ⌜ shown r (now (home .entry)) (now (working .exit)) (now (log .exit))
-        ≡ stepped (commit thread) supply (view state) (memory (now (home .entry)) (now (working .entry)) (now (log .entry))) ⌝ }
+        ≡ stepped (commit thread) supply (view state) (memory (now (home .entry)) (now (working .entry)) (now
+        (log .entry))) ⌝ }
     ensures { λ (r : Made). ⌜ HandedBack state r ⌝ }
 {
     let undos = state.undos.len;

@@ -39,7 +39,8 @@ pub(crate) fn deleted(
 ) -> Made
     requires { ⌜ numberOf (commonRows (view state) (memory (now home) (now working) (now log))) ≡ 0 ⌝ }
     ensures { λ (r : Made). ⌜ shown r (now (home .entry)) (now (working .exit)) (now (log .exit))
-        ≡ stepped deleteOldest supply (view state) (memory (now (home .entry)) (now (working .entry)) (now (log .entry))) ⌝ }
+        ≡ stepped deleteOldest supply (view state) (memory (now (home .entry)) (now (working .entry)) (now
+        (log .entry))) ⌝ }
     ensures { λ (r : Made). ⌜ HandedBack state r ⌝ }
 {
     let dirty = state.lines.dirty;

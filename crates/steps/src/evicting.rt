@@ -1,4 +1,5 @@
-// "Set down a line": eviction. Its ULog words add redo entries, for which the oldest are logged where places lack; all its words become Clean.
+// "Set down a line": eviction. Its ULog words add redo entries, for which the oldest are logged where places lack; all
+// its words become Clean.
 ghost use mathlib.Core.Path.{_≡_};
 ghost use Prim.Native.Nat.{_+_, _-_, _%_, _≤_};
 ghost use lib.ListN.{length, getD};
@@ -45,7 +46,8 @@ pub(crate) fn evicted(
 ) -> Made
     requires { ⌜ numberOf (commonRows (view state) (memory (now home) (now working) (now log))) ≡ 0 ⌝ }
     ensures { λ (r : Made). ⌜ shown r (now (home .entry)) (now (working .exit)) (now (log .exit))
-        ≡ stepped (evict line) supply (view state) (memory (now (home .entry)) (now (working .entry)) (now (log .entry))) ⌝ }
+        ≡ stepped (evict line) supply (view state) (memory (now (home .entry)) (now (working .entry)) (now
+        (log .entry))) ⌝ }
     ensures { λ (r : Made). ⌜ HandedBack state r ⌝ }
 {
     let count = lacking(state.redos.len, &state.lines.states, line);

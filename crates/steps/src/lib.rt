@@ -1,4 +1,5 @@
-// The nine steps of document 01, as functions of a state by its fields. Each hands back what the model's definition of the step gives.
+// The nine steps of document 01, as functions of a state by its fields. Each hands back what the model's definition of
+// the step gives.
 mod arrays;
 mod beginning;
 mod committing;

@@ -28,7 +28,8 @@ use state::cut;
 // The number under which the oldest entry of a buffer of `len` entries is not logged, or 0.
 fn refusal(len: usize, slots: u16, head: u64, tail: u64) -> u64
     requires { ⌜ (head ≤ tail) × ((tail ≤ head + slots) × (tail ≤ numbers)) ⌝ }
-    ensures { λ r. ⌜ ((m : Machine) (mem : Memory) (records : List Record) → LogOf slots head tail m → length records ≡ min 1 len
+    ensures { λ r. ⌜ ((m : Machine) (mem : Memory) (records : List Record) → LogOf slots head tail m → length records
+        ≡ min 1 len
         → r ≡ numberOf (oldestRows m mem records)) ⌝ }
 {
     if len == 0 {

@@ -36,7 +36,8 @@ pub(crate) fn refuse(applies: bool, number: u64, rest: u64) -> u64
     if applies { number } else { rest }
 }
 
-// The number under which every step that is lent the buffers refuses a state, or 0; `sound` says whether the state is consistent.
+// The number under which every step that is lent the buffers refuses a state, or 0; `sound` says whether the state is
+// consistent.
 pub(crate) fn common(
     lost: bool,
     words: u16,
@@ -47,7 +48,8 @@ pub(crate) fn common(
     working: &[u64],
     log: &[u64],
 ) -> u64
-    ensures { λ r. ⌜ ((m : Machine) → m .lost ≡ lost → m .sizes .words ≡ words → m .sizes .slots ≡ slots → m .span .head ≡ head → sound ≡ consistent m
+    ensures { λ r. ⌜ ((m : Machine) → m .lost ≡ lost → m .sizes .words ≡ words → m .sizes .slots ≡ slots
+        → m .span .head ≡ head → sound ≡ consistent m
         → r ≡ numberOf (commonRows m (memory (now (home .entry)) (now (working .entry)) (now (log .entry))))) ⌝ }
 {
     let consistent = sound & (log::head(log) == head);

@@ -36,11 +36,19 @@ fn takes_state(step: Step) -> bool
     }
 }
 
-// The number of the rows that come before a step's own, or 0; `sound` says whether the state that it takes is consistent. A recovery has
-// none, and a begin is lent no buffers.
-fn first_refusal(state: Fields, step: Step, sound: bool, home: &[u64], working: &[u64], log: &[u64]) -> u64
+// The number of the rows that come before a step's own, or 0; `sound` says whether the state that it takes is
+// consistent. A recovery has none, and a begin is lent no buffers.
+fn first_refusal(
+    state: Fields,
+    step: Step,
+    sound: bool,
+    home: &[u64],
+    working: &[u64],
+    log: &[u64],
+) -> u64
     requires { ⌜ (takesState step ≡ true → sound ≡ consistent (view state)) ⌝ }
-    ensures { λ r. ⌜ r ≡ numberOf (firstRows step (view state) (memory (now (home .entry)) (now (working .entry)) (now (log .entry)))) ⌝ }
+    ensures { λ r. ⌜ r ≡ numberOf (firstRows step (view state) (memory (now (home .entry)) (now (working .entry)) (now
+        (log .entry)))) ⌝ }
 {
     match step {
         Step::Begin { thread: _ } => refuse(state.lost, LOST, refuse(!sound, INCONSISTENT, 0)),

@@ -9,7 +9,8 @@ ghost use Rattle.log.specs.Region.{numbers};
 ghost use Rattle.parts.specs.Lines.{nobody};
 ghost use Rattle.lines.specs.Lines.{firstLines};
 ghost use Rattle.model.specs.Machine.{Machine, Memory, holderIn};
-ghost use Rattle.model.specs.Refusals.{numberOf, row, idle as idleNumber, held, noRoom, common as commonRows, unknownThread, unknownWord};
+ghost use Rattle.model.specs.Refusals.{numberOf, row, idle as idleNumber, held, noRoom};
+ghost use Rattle.model.specs.Refusals.{common as commonRows, unknownThread, unknownWord};
 ghost use Rattle.model.specs.Step.{store, stepped};
 ghost use Rattle.model.specs.Steps.{storeLogs, storeNext};
 ghost use Rattle.buffers.specs.Progressed.{Stored};
@@ -53,7 +54,8 @@ use state::cut;
 fn held_by_another(holders: &[u8; 64], thread: u64, word: u16) -> bool
     requires { ⌜ word < 512 ⌝ }
     ensures { λ r. ⌜ ((ls : Lines) → ls .holders ≡ now (holders .entry) → (n : ℕ) → word / 8 < n
-        → r ≡ (not (eqb (holderIn (firstLines n ls) word) nobody) && not (eqb (holderIn (firstLines n ls) word) thread))) ⌝ }
+        → r ≡ (not (eqb (holderIn (firstLines n ls) word) nobody) && not (eqb (holderIn
+        (firstLines n ls) word) thread))) ⌝ }
 {
     let holder = holder_of(holders, word) as u64;
     (holder != 255) & (holder != thread)
@@ -62,7 +64,8 @@ fn held_by_another(holders: &[u8; 64], thread: u64, word: u16) -> bool
 // How many entries a store logs first: the oldest, if another value comes to a Clean word and 16 entries wait.
 fn logs_first(states: &[u16; 64], len: usize, word: u16, same: bool) -> usize
     requires { ⌜ (word < 512) × (len ≤ 16) ⌝ }
-    ensures { λ r. ⌜ ((s : Fields) → s .lines .states ≡ now (states .entry) → s .undos .len ≡ len → word / 8 < s .words / 8
+    ensures { λ r. ⌜ ((s : Fields) → s .lines .states ≡ now (states .entry) → s .undos .len ≡ len
+        → word / 8 < s .words / 8
         → r ≡ storeLogs (view s) word same) ⌝ }
 {
     match state_of(states, word) {
@@ -77,7 +80,8 @@ fn next_state(mut state: Fields, entry: Entry, count: usize) -> Fields
     requires { ⌜ (entry .word < state .words) × ((state .words ≤ 512) × (state .words % 8 ≡ 0)) ⌝ }
     requires { ⌜ count ≡ storeLogs (view state) (entry .word) (eqb (entry .redo) (entry .undo)) ⌝ }
     ensures { λ (r : Fields). ⌜ ((mem : Memory) → getD (mem .working) (entry .word) 0 ≡ entry .undo
-        → view r ≡ storeNext (view state) mem (entry .thread) (entry .word) (entry .redo) (eqb (entry .redo) (entry .undo))) ⌝ }
+        → view r ≡ storeNext (view state) mem (entry .thread) (entry .word) (entry .redo) (eqb (entry .redo)
+        (entry .undo))) ⌝ }
 {
     let line = (entry.word / 8) as usize;
     let kind = state_of(&state.lines.states, entry.word);
@@ -122,7 +126,8 @@ fn next_state(mut state: Fields, entry: Entry, count: usize) -> Fields
 
 // The number of an unknown thread or word, or 0.
 fn place_refusal(words: u16, thread: u64, word: u64) -> u64
-    ensures { λ r. ⌜ ((m : Machine) → m .sizes .words ≡ words → r ≡ numberOf (unknownThread thread ∷ unknownWord m word ∷ [])) ⌝ }
+    ensures { λ r. ⌜ ((m : Machine) → m .sizes .words ≡ words → r
+        ≡ numberOf (unknownThread thread ∷ unknownWord m word ∷ [])) ⌝ }
 {
     refuse(7 < thread, THREAD, refuse(words as u64 <= word, PLACE, 0))
 }
@@ -143,7 +148,8 @@ fn store_refusal(idle: bool, taken: bool, count: usize, slots: u16, head: u64, t
 // The oldest entries of the undo+redo buffer are logged.
 fn append_oldest(undos: UndoBuffer, count: usize, log: &mut [u64], tail: u64, supply: u64) -> u64
     ensures { λ r. ⌜ Stored supply (now (log .entry)) tail
-        (undoRecordsOf count (undos .len) (undos .threads) (undos .words) (undos .undos) (undos .redos)) (now (log .exit)) r ⌝ }
+        (undoRecordsOf count (undos .len) (undos .threads) (undos .words) (undos .undos) (undos .redos)) (now
+        (log .exit)) r ⌝ }
 {
     append_undos(
         log,
@@ -175,7 +181,8 @@ pub(crate) fn stored<'a>(
     requires { ⌜ TakenOut (now opened) (now holders) (now states) state ⌝ }
     requires { ⌜ numberOf (commonRows (view state) (memory (now home) (now working) (now log))) ≡ 0 ⌝ }
     ensures { λ (r : Made). ⌜ shown r (now (home .entry)) (now (working .exit)) (now (log .exit))
-        ≡ stepped (store thread word value) supply (view state) (memory (now (home .entry)) (now (working .entry)) (now (log .entry))) ⌝ }
+        ≡ stepped (store thread word value) supply (view state) (memory (now (home .entry)) (now (working .entry))
+        (now (log .entry))) ⌝ }
     ensures { λ (r : Made). ⌜ HandedBack state r ⌝ }
 {
     let place = place_refusal(state.words, thread, word);

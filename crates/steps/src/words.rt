@@ -8,7 +8,8 @@ use lines::Lines;
 // The state of a word, by the states of the lines; n is the number of lines in use.
 pub(crate) fn state_of(states: &[u16; 64], word: u16) -> u64
     requires { ⌜ word < 512 ⌝ }
-    ensures { λ r. ⌜ ((ls : Lines) → ls .states ≡ now (states .entry) → (n : ℕ) → word / 8 < n → r ≡ stateIn (firstLines n ls) word) ⌝ }
+    ensures { λ r. ⌜ ((ls : Lines) → ls .states ≡ now (states .entry) → (n : ℕ) → word / 8 < n → r
+        ≡ stateIn (firstLines n ls) word) ⌝ }
 {
     let at = (word / 8) as usize;
     lines::state_at(states[at], (word % 8) as u64)
@@ -16,7 +17,8 @@ pub(crate) fn state_of(states: &[u16; 64], word: u16) -> u64
 
 pub(crate) fn holder_of(holders: &[u8; 64], word: u16) -> u8
     requires { ⌜ word < 512 ⌝ }
-    ensures { λ r. ⌜ ((ls : Lines) → ls .holders ≡ now (holders .entry) → (n : ℕ) → word / 8 < n → r ≡ holderIn (firstLines n ls) word) ⌝ }
+    ensures { λ r. ⌜ ((ls : Lines) → ls .holders ≡ now (holders .entry) → (n : ℕ) → word / 8 < n → r
+        ≡ holderIn (firstLines n ls) word) ⌝ }
 {
     let at = (word / 8) as usize;
     holders[at]

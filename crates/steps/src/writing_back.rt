@@ -22,7 +22,8 @@ use state::PENDING;
 use state::PLACE;
 use state::cut;
 
-// The rows of a step on a line that must not be pending, before the rest of its rows. `states` are those of the 64 lines.
+// The rows of a step on a line that must not be pending, before the rest of its rows. `states` are those of the 64
+// lines.
 pub(crate) fn line_refusal(words: u16, states: &[u16; 64], line: u64, rest: u64) -> u64
     ensures { λ r. ⌜ r ≡ cond (leb (words / 8) line) place
         (cond (any (λ j. eqb (stateAt (getD (now (states .entry)) (line % 64) 0) j) Dirty) (upTo 8)) pending rest) ⌝ }
@@ -48,7 +49,8 @@ pub(crate) fn written_back(
     requires { ⌜ now states ≡ state .lines .states ⌝ }
     requires { ⌜ numberOf (commonRows (view state) (memory (now home) (now working) (now log))) ≡ 0 ⌝ }
     ensures { λ (r : Made). ⌜ shown r (now (home .exit)) (now (working .exit)) (now (log .entry))
-        ≡ stepped (writeBack line) supply (view state) (memory (now (home .entry)) (now (working .entry)) (now (log .entry))) ⌝ }
+        ≡ stepped (writeBack line) supply (view state) (memory (now (home .entry)) (now (working .entry)) (now
+        (log .entry))) ⌝ }
     ensures { λ (r : Made). ⌜ HandedBack state r ⌝ }
 {
     let number = line_refusal(state.words, states, line, 0);

@@ -5,7 +5,7 @@ ghost use mathlib.Core.Path.{_≡_};
 ghost use Prim.Native.Nat.{_-_};
 ghost use lib.ListN.{length, set};
 ghost use Rattle.buffers.specs.Arrays.{removed};
-use parts::less;
+use lines::less;
 
 pub fn push_thread(threads: &mut [u8; 16], len: usize, gone: usize, thread: u8)
     ensures { λ _. ⌜ (length (now (threads .entry)) ≡ 16

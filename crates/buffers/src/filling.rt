@@ -12,8 +12,8 @@ ghost use Rattle.lines.specs.Walks.{ulogWords};
 ghost use Rattle.buffers.specs.Filled.{refilled, wordsIn, valuesIn};
 use crate::RedoBuffer;
 use lines::U_LOG;
-use parts::least;
-use parts::less;
+use lines::least;
+use lines::less;
 
 // Word j of a line adds an entry at place `at`: it is ULog, and there is such a place.
 fn adds(states: u16, j: usize, at: usize) -> bool

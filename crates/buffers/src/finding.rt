@@ -1,5 +1,5 @@
 // The place of a word's entry in a buffer.
-use parts::least;
+use lines::least;
 ghost use mathlib.Core.Path.{_≡_};
 ghost use mathlib.Core.List.{List};
 ghost use Prim.Native.Nat.{ℕ, min};

@@ -1,9 +1,9 @@
 // The oldest entries of the undo+redo buffer are logged. The buffer is lent by its fields.
 ghost use Rattle.buffers.specs.Progressed.{Stored};
 ghost use Rattle.buffers.specs.Records.{undoRecordsOf};
+use lines::least;
 use log::NUMBERS;
 use log::Record;
-use parts::least;
 
 // Appends the records of the `count` oldest entries, the first as record `number`. Of a length over 16, which no
 // undo+redo buffer has, nothing is appended.

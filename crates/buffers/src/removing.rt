@@ -1,7 +1,7 @@
 // Elements taken out of an array: of the first `len`, `gone` from place `at` on, so that those behind them move down. A
 // function for each width.
-use parts::least;
-use parts::less;
+use lines::least;
+use lines::less;
 ghost use mathlib.Core.Path.{_≡_};
 ghost use Rattle.buffers.specs.Arrays.{removed};
 

@@ -5,6 +5,7 @@ ghost use Rattle.lines.specs.Lines.{freeLines};
 
 mod home_stores;
 mod marking;
+mod numbers;
 mod releasing;
 mod ulog_words;
 mod word_states;
@@ -13,6 +14,8 @@ pub use home_stores::has_dirty;
 pub use home_stores::store_line;
 pub use marking::mark;
 pub use marking::mark_logged;
+pub use numbers::least;
+pub use numbers::less;
 pub use releasing::release_holders;
 pub use releasing::release_states;
 pub use ulog_words::count_newest;

@@ -5,7 +5,7 @@ ghost use lib.ListN.{length, getD, set, take};
 ghost use Rattle.parts.specs.States.{withState};
 ghost use Rattle.lines.specs.Walks.{allMarked};
 use crate::UR_LOG;
-use parts::least;
+use crate::numbers::least;
 
 // The state of a word replaced, in the states of all 64 lines. There are four states; a word past the last line has
 // none.

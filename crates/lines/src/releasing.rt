@@ -5,7 +5,7 @@ ghost use Prim.Native.Nat.{min};
 ghost use lib.Dec.{eqb};
 ghost use Rattle.parts.specs.Lines.{nobody};
 ghost use Rattle.lines.specs.Walks.{replacedTo, freedHolder, freedStates};
-use parts::least;
+use crate::numbers::least;
 
 // The holder of a line after the thread's commit.
 fn free_holder(holder: u8, thread: u8) -> u8

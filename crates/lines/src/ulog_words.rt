@@ -10,7 +10,7 @@ ghost use Rattle.parts.specs.States.{stateAt, ULog};
 ghost use Rattle.model.specs.Lists.{keep, upTo};
 ghost use Rattle.lines.specs.Newest.{linesOf, newestWords, newestInLine};
 use crate::U_LOG;
-use parts::least;
+use crate::numbers::least;
 
 // How many words of a line are ULog, by the line's states.
 pub fn count_ulog(states: u16) -> usize

@@ -1,10 +1,5 @@
 // The types that the model names: an entry, a line, a step, the verdict on the oldest record.
 
-mod numbers;
-
-pub use numbers::least;
-pub use numbers::less;
-
 // An entry that waits to be logged. A redo entry's undo is 0.
 pub struct Entry {
     pub thread: u8,

@@ -1,2 +1,8 @@
--- Laws about the state that a step hands back.
+-- Laws about the state that a step hands back, and about the test of a consistent one.
 pub mod HandedBack
+pub mod Lent
+pub mod Opened
+pub mod Settled
+pub mod Linear
+pub mod CleanWords
+pub mod Walking

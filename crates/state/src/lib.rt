@@ -4,9 +4,16 @@ use buffers::RedoBuffer;
 use buffers::UndoBuffer;
 use lines::Lines;
 
+mod awaited;
+mod consistency;
+mod dirty_words;
+mod holding;
+mod limits;
 mod memory;
+mod waiting_entries;
 mod ways_out;
 
+pub use consistency::is_consistent;
 pub use memory::wrong_lengths;
 pub use ways_out::cut;
 pub use ways_out::lost;

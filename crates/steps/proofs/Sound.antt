@@ -2,8 +2,8 @@
 use Prim.Native.Nat.{_/_}
 use mathlib.Core.Path.{_≡_, refl}
 use Rattle.model.specs.Consistent.{consistent}
-use Rattle.consistency.specs.StateOf.{linesLent, entriesLent, stateOf}
-use Rattle.consistency.proofs.Lent.{entries-lent, lent-consistent}
+use Rattle.state.specs.StateOf.{linesLent, entriesLent, stateOf}
+use Rattle.state.proofs.Lent.{entries-lent, lent-consistent}
 use Rattle.buffers.proofs.Waiting.{undoAt, redoAt}
 use Rattle.state.specs.declared.Fields.{Fields}
 use Rattle.state.specs.View.{view}

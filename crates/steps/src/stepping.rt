@@ -18,13 +18,13 @@ use crate::refusals::refuse;
 use crate::refusals::refused;
 use crate::storing::stored;
 use crate::writing_back::written_back;
-use consistency::is_consistent;
 use parts::Step;
 use recovery::recover;
 use state::Fields;
 use state::INCONSISTENT;
 use state::LOST;
 use state::Made;
+use state::is_consistent;
 
 // Every step but a recovery takes a state.
 fn takes_state(step: Step) -> bool

@@ -1,0 +1,195 @@
+-- Walks over the lines and over the entries that are lent, one after the other.
+use Prim.Native.Nat.{ℕ, _+_, _/_, _%_, _≤_, _<_}
+use mathlib.Core.Path.{_≡_, refl, sym, ap, ap₂, _∙_}
+use mathlib.Core.Bool.{Bool, true, false, _&&_, and-true, and-assoc, false≢true}
+use mathlib.Core.List.{List, [], _∷_, _++_}
+use native.Mathlib.Numerals.{add-one}
+use native.Mathlib.Omega.{arith}
+use borrow.Author.Tests.{lt-ltb, le-ltb}
+use lib.Dec.{eqb, ltb}
+use lib.ListN.{length, getD, drop, set, length-set, drop-of-length-le}
+use lib.Seq.{drop-cons, getD-set-same, getD-set-other}
+use Rattle.parts.specs.declared.Entry.{Entry}
+use Rattle.parts.specs.declared.Line.{Line}
+use Rattle.parts.specs.Listed.{listed}
+use Rattle.parts.specs.Lines.{freeLine}
+use Rattle.parts.specs.States.{stateAt, withState, Dirty, URLog}
+use Rattle.parts.proofs.Listed.{length-listed, getD-listed, set-listed}
+use Rattle.model.specs.Lists.{all}
+use Rattle.model.specs.Machine.{lineOf, stateIn, holderIn, statesAs, changed, marked}
+use Rattle.state.specs.StateOf.{bareLine, bareEntry, linesLent, entriesLent}
+use Rattle.state.specs.Linear.{waitsFor, eachWaits, allMarked, settledLine, undosWait, Walked}
+
+-- a test of all elements, one more of them last
+pub all-last : {A : Type 0} (f : A → Bool) (xs : List A) (x : A) → all f (xs ++ (x ∷ [])) ≡ (all f xs && f x)
+unfolding all
+all-last f [] x = and-true (f x)
+all-last f (y ∷ xs) x = ap (λ (t : Bool). f y && t) (all-last f xs x) ∙ sym (and-assoc (f y) (all f xs) (f x))
+
+pub all-more : {A : Type 0} (f : A → Bool) (n : ℕ) (g : ℕ → A) → all f (listed (n + 1) g) ≡ (all f (listed n g) && f (g n))
+unfolding listed
+all-more f n g = ap (λ (k : ℕ). all f (listed k g)) (add-one n) ∙ all-last f (listed n g) (g n)
+
+module _ (holders states : List ℕ) where
+  abbrev line : ℕ → Line
+  line i = bareLine (getD holders i 0) (getD states i 0)
+
+  module _ (n w : ℕ) (in-use : w / 8 < n) where
+    -- the line of a word in use
+    line-here : lineOf (linesLent n holders states) (w / 8) ≡ line (w / 8)
+    line-here = getD-listed n line (w / 8) freeLine in-use
+
+    -- what the arrays have of it
+    pub state-here : stateAt (getD states (w / 8) 0) (w % 8) ≡ stateIn (linesLent n holders states) w
+    unfolding stateIn
+    state-here = ap (λ (l : Line). stateAt (l .states) (w % 8)) (sym line-here)
+
+    pub holder-here : getD holders (w / 8) 0 ≡ holderIn (linesLent n holders states) w
+    unfolding holderIn
+    holder-here = ap (λ (l : Line). l .holder) (sym line-here)
+
+    -- its state replaced in the array
+    pub states-set : (s : ℕ) → w / 8 < length states
+        → linesLent n holders (set states (w / 8) (withState (getD states (w / 8) 0) (w % 8) s)) ≡ marked s w (linesLent n holders states)
+    unfolding marked changed
+    states-set s there =
+        let i : ℕ = w / 8 in
+        let new : ℕ = withState (getD states i 0) (w % 8) s in
+        sym (set-listed n line (λ k. bareLine (getD holders k 0) (getD (set states i new) k 0)) i (statesAs new (line i))
+        (λ _. ap (bareLine (getD holders i 0)) (getD-set-same states i new 0 there))
+        (λ k ne. ap (bareLine (getD holders k 0)) (getD-set-other states i k new 0 ne)))
+        ∙ ap (λ (l : Line). set (linesLent n holders states) i (statesAs (withState (l .states) (w % 8) s) l)) (sym line-here)
+
+-- One entry, by what the arrays have of it.
+module _ (wanted next words : ℕ) (holders states : List ℕ) (thread word : ℕ) where
+  fails : waitsFor wanted words (linesLent (words / 8) holders states) (bareEntry thread word) ≡ false
+      → Walked wanted next words holders states (bareEntry thread word ∷ []) false states
+  unfolding eachWaits
+  fails wrong = record { size = refl; each = rw wrong; lines = λ h. absurd (false≢true h) }
+
+  -- a word that is not in use
+  pub walked-unused : words ≤ word → Walked wanted next words holders states (bareEntry thread word ∷ []) false states
+  unfolding waitsFor
+  walked-unused h = fails (rw (le-ltb word words h))
+
+  module _ (found : Bool) (multiple : words % 8 ≡ 0) (used : word < words)
+      (read : found ≡ eqb (stateAt (getD states (word / 8) 0) (word % 8)) wanted) where
+    flag : (t : Bool) → (ltb thread 8 && (eqb thread (getD holders (word / 8) 0) && found)) ≡ t
+        → waitsFor wanted words (linesLent (words / 8) holders states) (bareEntry thread word) ≡ t
+    unfolding waitsFor
+    flag t test =
+        let in-use : word / 8 < words / 8 = omega arith in
+        rw (lt-ltb word words used, ← holder-here holders states (words / 8) word in-use, ← state-here holders states (words / 8) word in-use, ← read)
+        test
+
+    -- an entry that does not wait
+    pub walked-not : (ltb thread 8 && (eqb thread (getD holders (word / 8) 0) && found)) ≡ false
+        → Walked wanted next words holders states (bareEntry thread word ∷ []) false states
+    walked-not test = fails (flag false test)
+
+    -- an entry that waits: its word's state is replaced
+    pub walked-one : (ltb thread 8 && (eqb thread (getD holders (word / 8) 0) && found)) ≡ true → words ≤ 512 → length states ≡ 64
+        → (new : ℕ) → new ≡ withState (getD states (word / 8) 0) (word % 8) next
+        → Walked wanted next words holders states (bareEntry thread word ∷ []) true (set states (word / 8) new)
+    unfolding eachWaits allMarked
+    walked-one test few whole new put =
+        record {
+          size = length-set states (word / 8) new;
+          each = rw (flag true test);
+          lines = λ _. rw put (states-set holders states (words / 8) word (omega arith) next (omega arith));
+        }
+
+module _ (wanted next words : ℕ) (holders : List ℕ) where
+  -- no entries: each waits, and no state is replaced
+  pub walked-none : (states : List ℕ) → Walked wanted next words holders states [] true states
+  unfolding eachWaits allMarked
+  walked-none states = record { size = refl; each = refl; lines = λ _. refl }
+
+  -- an entry that waits, and then others
+  walked-more : (before : List ℕ) (e : Entry) (es : List Entry) (states later : List ℕ) (r : Bool)
+      → Walked wanted next words holders before (e ∷ []) true states → Walked wanted next words holders states es r later
+      → Walked wanted next words holders before (e ∷ es) r later
+  unfolding eachWaits allMarked
+  walked-more before e es states later r one rest =
+      let waits : waitsFor wanted words (linesLent (words / 8) holders before) e ≡ true = sym (one .each ∙ and-true _) in
+      let marks : linesLent (words / 8) holders states ≡ marked next (e .word) (linesLent (words / 8) holders before) = one .lines refl in
+      record {
+        size = rest .size ∙ one .size;
+        each = rw waits (rest .each ∙ ap (λ (l : List Line). eachWaits wanted next words l es) marks);
+        lines = λ h. rest .lines h ∙ ap (λ (l : List Line). allMarked next l es) marks;
+      }
+
+  -- an entry that does not wait, whatever follows
+  walked-fails : (before : List ℕ) (e : Entry) (es : List Entry) (states : List ℕ) → Walked wanted next words holders before (e ∷ []) false states
+      → Walked wanted next words holders before (e ∷ es) false states
+  unfolding eachWaits
+  walked-fails before e es states one =
+      let fails : waitsFor wanted words (linesLent (words / 8) holders before) e ≡ false = sym (one .each ∙ and-true _) in
+      record { size = one .size; each = rw fails; lines = λ h. absurd (false≢true h) }
+
+-- A walk over the entries es has come to the entries `rest`, with the states as they are then: what it finds from there on is what it finds
+-- of all.
+pub record Reached (wanted next words : ℕ) (holders before : List ℕ) (es : List Entry) (states : List ℕ) (rest : List Entry) : Type 0 where
+  pub size : length states ≡ length before
+  pub onward : (r : Bool) (later : List ℕ) → Walked wanted next words holders states rest r later
+      → Walked wanted next words holders before es r later
+
+-- the entries that are lent
+module _ (count : ℕ) (threads targets : List ℕ) where
+  abbrev entry : ℕ → Entry
+  entry i = bareEntry (getD threads i 0) (getD targets i 0)
+
+  -- those from place i on: the one there, and those after it
+  entries-from : (i : ℕ) → i < count → drop i (entriesLent count threads targets) ≡ entry i ∷ drop (i + 1) (entriesLent count threads targets)
+  entries-from i h =
+      let l : length (entriesLent count threads targets) ≡ count = length-listed count entry in
+      drop-cons (entriesLent count threads targets) i (entry i) (omega arith)
+      ∙ ap₂ (λ (x : Entry) (n : ℕ). x ∷ drop n (entriesLent count threads targets)) (getD-listed count entry i (entry i) h) (sym (add-one i))
+
+  -- a walk has come to place i
+  module _ (wanted next words : ℕ) (holders before : List ℕ) where
+    abbrev pub ReachedAt : ℕ → List ℕ → Type 0
+    ReachedAt i states =
+        Reached wanted next words holders before (entriesLent count threads targets) states (drop i (entriesLent count threads targets))
+
+    pub reached-start : ReachedAt 0 before
+    reached-start = record { size = refl; onward = λ r later w. w }
+
+    module _ (i : ℕ) (states new : List ℕ) (r : Bool) (h : i < count) (so-far : ReachedAt i states)
+        (one : Walked wanted next words holders states (entry i ∷ []) r new) where
+      here : Reached wanted next words holders before (entriesLent count threads targets) states
+          (entry i ∷ drop (i + 1) (entriesLent count threads targets))
+      here = rw (entries-from i h) at so-far
+
+      -- the entry there waits: on to the next
+      pub reached-more : r ≡ true → ReachedAt (i + 1) new
+      reached-more right =
+          let waits : Walked wanted next words holders states (entry i ∷ []) true new = rw right at one in
+          record {
+            size = one .size ∙ so-far .size;
+            onward =
+                λ r later w.
+                here .onward r later
+                (walked-more wanted next words holders states (entry i) (drop (i + 1) (entriesLent count threads targets)) new later r waits w);
+          }
+
+      -- it does not: that is so of all
+      pub reached-fails : r ≡ false → Walked wanted next words holders before (entriesLent count threads targets) false new
+      reached-fails wrong =
+          let fails : Walked wanted next words holders states (entry i ∷ []) false new = rw wrong at one in
+          here .onward false new
+          (walked-fails wanted next words holders states (entry i) (drop (i + 1) (entriesLent count threads targets)) new fails)
+
+    pub reached-end : (i : ℕ) (states : List ℕ) → count ≤ i → ReachedAt i states
+        → Walked wanted next words holders before (entriesLent count threads targets) true states
+    reached-end i states h so-far =
+        let l : length (entriesLent count threads targets) ≤ i = rw length-listed h in
+        so-far .onward true states (rw (drop-of-length-le (entriesLent count threads targets) l) (walked-none wanted next words holders states))
+
+-- the undo+redo entries walked over, and then the states looked at
+pub undos-walked : (words : ℕ) (holders before : List ℕ) (es : List Entry) (states : List ℕ) (r t : Bool)
+    → Walked Dirty URLog words holders before es r states → t ≡ all settledLine (linesLent (words / 8) holders states)
+    → (r && t) ≡ undosWait words (linesLent (words / 8) holders before) es
+unfolding undosWait
+undos-walked words holders before es states true t walked settled = rw (← walked .each) (settled ∙ ap (all settledLine) (walked .lines refl))
+undos-walked words holders before es states false t walked settled = rw (← walked .each)

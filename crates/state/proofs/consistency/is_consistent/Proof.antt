@@ -1,0 +1,62 @@
+-- `is_consistent` meets its contract: its tests are the linear test, which is the definition.
+use mathlib.Core.Bool.{Bool, true, _&&_}
+use mathlib.Core.Path.{_≡_, refl, sym, ap, _∙_}
+use Prim.Native.Nat.{_%_, _≤_}
+use native.Mathlib.Omega.{arith}
+use borrow.Author.Tests.{not-true, not-false}
+use borrow.Author.Needs.{needs}
+use Rattle.state.specs.Linear.{inLimits}
+use Rattle.state.proofs.Linear.{limits-hold, parts-consistent, outside-limits}
+use Rattle.state.proofs.consistency.is_consistent.Statement.{statement}
+use Rattle.state.proofs.consistency.is_consistent.Tie as tie
+
+within-limits-requires : tie.Need-within-limits-requires
+within-limits-requires c κs = search needs
+
+returns : tie.Need-returns
+returns c =
+    let a = c .before .before .args in
+    outside-limits (a .words) (a .slots) (a .head) (a .tail) (a .opened .now) (a .holders .now) (a .states .now) (a .undos) (a .undo-threads .now)
+    (a .undo-words .now) (a .redos) (a .redo-threads .now) (a .redo-words .now)
+    (sym (c .before .within-limits .ensures) ∙ not-true _ (c .if1 .taken))
+
+cast-lines-sound : tie.Need-cast-lines-sound
+cast-lines-sound c = search needs
+
+-- where the limits are kept
+module _ (c : tie.Else1) where
+  within : inLimits (c .before .before .args .words) (c .before .before .args .slots) (c .before .before .args .head)
+      (c .before .before .args .tail) (c .before .before .args .undos) (c .before .before .args .redos) ≡ true
+  within = sym (c .before .within-limits .ensures) ∙ not-false _ (c .if1 .left)
+
+  bounded : (c .before .before .args .words ≤ 512)
+      × ((c .before .before .args .words % 8 ≡ 0) × ((c .before .before .args .undos ≤ 16) × (c .before .before .args .redos ≤ 32)))
+  bounded =
+      let a = c .before .before .args in
+      limits-hold (a .words) (a .slots) (a .head) (a .tail) (a .undos) (a .redos) within
+
+lines-sound-requires : tie.Need-lines-sound-requires
+lines-sound-requires c κs = omega (arith, bounded c)
+
+all-wait-requires : tie.Need-all-wait-requires
+all-wait-requires c κs = bounded (c .before .before)
+
+returns-2 : tie.Need-returns-2
+returns-2 c =
+    let start = c .before .before .before in
+    let a = start .before .before .args in
+    let lines = c .before .before .lines-sound in
+    ap (λ (t : Bool). lines .result && t) (c .all-wait .ensures)
+    ∙ parts-consistent (a .words) (a .slots) (a .head) (a .tail) (a .opened .now) (a .holders .now) (a .states .now) (a .undos) (a .undo-threads .now)
+    (a .undo-words .now) (a .redos) (a .redo-threads .now) (a .redo-words .now) true (lines .result) _ _ (sym (within start)) (lines .ensures) refl refl
+
+pub is-consistent-spec : {M : Type 1} → statement M
+is-consistent-spec =
+    tie.close
+    (tie.spec
+    within-limits-requires
+    returns
+    cast-lines-sound
+    lines-sound-requires
+    all-wait-requires
+    returns-2)

@@ -1,0 +1,70 @@
+-- `dirty_words::all_settled` meets its contract: the flag is the test of the lines so far.
+use Prim.Native.Nat.{ℕ, _-_, _≤_}
+use mathlib.Core.Path.{_≡_, refl, sym, ap, ap₂, _∙_}
+use mathlib.Core.Bool.{Bool, _&&_}
+use mathlib.Core.List.{List}
+use native.Mathlib.Omega.{arith}
+use lib.ListN.{getD}
+use Rattle.parts.specs.Listed.{listed}
+use Rattle.model.specs.Lists.{all}
+use Rattle.state.specs.StateOf.{bareLine, linesLent}
+use Rattle.state.specs.Linear.{settledLine}
+use Rattle.state.proofs.Walking.{all-more}
+use Rattle.state.proofs.dirty_words.all_settled.Statement.{statement}
+use Rattle.state.proofs.dirty_words.all_settled.Tie as tie
+
+abbrev Inv-loop : tie.InvT-loop
+Inv-loop count states settled₀ i₀ settled i = (i ≤ count) × ((holders : List ℕ) → settled ≡ all settledLine (linesLent i holders states))
+
+abbrev μ-loop : tie.MeasureT-loop
+μ-loop count states settled₀ i₀ settled i = count - i
+
+loop-holds : tie.Need-loop-holds Inv-loop μ-loop
+unfolding all listed
+loop-holds c = (omega arith, λ holders. refl)
+
+mul-is-settled : tie.Need-mul-is-settled Inv-loop μ-loop
+mul-is-settled c = omega arith
+
+element-copy-out-is-settled : tie.Need-element-copy-out-is-settled Inv-loop μ-loop
+element-copy-out-is-settled c = omega arith
+
+is-settled-requires : tie.Need-is-settled-requires Inv-loop μ-loop
+is-settled-requires c κs = tt
+
+add-i : tie.Need-add-i Inv-loop μ-loop
+add-i c = omega arith
+
+loop-less : tie.Need-loop-less Inv-loop μ-loop
+loop-less c = omega arith
+
+loop-again : tie.Need-loop-again Inv-loop μ-loop
+loop-again c =
+    let i = c .before .before .before .loop .i in
+    let states = c .before .before .before .before .args .states .now in (
+      omega arith,
+      λ holders.
+          ap₂ (λ (s t : Bool). s && t) (c .before .before .before .loop .inv .1 holders) (c .is-settled .ensures)
+          ∙ sym (all-more settledLine i (λ k. bareLine (getD holders k 0) (getD states k 0))),
+    )
+
+returns : tie.Need-returns Inv-loop μ-loop
+returns c =
+    let a = c .before .before .args in
+    let same : c .before .loop .i ≡ a .count = omega arith in
+    λ holders. c .before .loop .inv .1 holders ∙ ap (λ (n : ℕ). all settledLine (linesLent n holders (a .states .now))) same
+
+pub all-settled-spec : {M : Type 1} → statement M
+all-settled-spec =
+    tie.close
+    (tie.spec
+    Inv-loop
+    μ-loop
+    loop-holds
+    mul-is-settled
+    element-copy-out-is-settled
+    is-settled-requires
+    add-i
+    loop-less
+    loop-again
+    returns)

@@ -1,0 +1,86 @@
+-- `waiting_entries::each_waits` meets its contract: what is found from the entry at `i` on is what is found of all.
+use Prim.Native.Nat.{_-_, _≤_}
+use native.Mathlib.Omega.{arith}
+use borrow.Author.Tests.{not-true, not-false}
+use borrow.Author.Needs.{needs}
+use Rattle.state.specs.Linear.{awaited, markOf}
+use Rattle.state.proofs.Walking.{ReachedAt, reached-start, reached-more, reached-fails, reached-end}
+use Rattle.state.proofs.waiting_entries.each_waits.Statement.{statement}
+use Rattle.state.proofs.waiting_entries.each_waits.Tie as tie
+
+abbrev Inv-loop : tie.InvT-loop
+Inv-loop words holders states₀ count threads targets buffer i₀ states i =
+    (i ≤ count) × ReachedAt count threads targets (awaited buffer) (markOf buffer) words holders states₀ i states
+
+abbrev μ-loop : tie.MeasureT-loop
+μ-loop words holders states₀ count threads targets buffer i₀ states i = count - i
+
+loop-holds : tie.Need-loop-holds Inv-loop μ-loop
+loop-holds c =
+    let a = c .before .before .args in
+    let b = a .buffer in
+    (omega arith, reached-start (a .count) (a .threads .now) (a .targets .now) (awaited b) (markOf b) (a .words) (a .holders .now) (a .states .now))
+
+shared-slice-read-thread : tie.Need-shared-slice-read-thread Inv-loop μ-loop
+shared-slice-read-thread c = omega arith
+
+mul-word : tie.Need-mul-word Inv-loop μ-loop
+mul-word c = omega arith
+
+shared-slice-read-word : tie.Need-shared-slice-read-word Inv-loop μ-loop
+shared-slice-read-word c = omega arith
+
+waits-requires : tie.Need-waits-requires Inv-loop μ-loop
+waits-requires c κs = search needs
+
+returns : tie.Need-returns Inv-loop μ-loop
+returns c =
+    let a = c .before .before .before .before .before .before .before .before .before .args in
+    let head = c .before .before .before .before .before .before .loop in
+    let b = a .buffer in
+    let called = c .before .waits in
+    reached-fails (a .count) (a .threads .now) (a .targets .now) (awaited b) (markOf b) (a .words) (a .holders .now) (a .states .now) (head .i)
+    (head .states) (called .last .1 .1 .0) (called .result) (c .before .before .before .before .before .loop-test .taken) (head .inv .1)
+    (called .ensures) (not-true (called .result) (c .if1 .taken))
+
+add-i : tie.Need-add-i Inv-loop μ-loop
+add-i c = omega arith
+
+loop-less : tie.Need-loop-less Inv-loop μ-loop
+loop-less c = omega arith
+
+loop-again : tie.Need-loop-again Inv-loop μ-loop
+loop-again c =
+    let a = c .before .before .before .before .before .before .before .before .before .args in
+    let head = c .before .before .before .before .before .before .loop in
+    let b = a .buffer in
+    let called = c .before .waits in (
+      omega arith,
+      reached-more (a .count) (a .threads .now) (a .targets .now) (awaited b) (markOf b) (a .words) (a .holders .now) (a .states .now) (head .i)
+          (head .states) (called .last .1 .1 .0) (called .result) (c .before .before .before .before .before .loop-test .taken) (head .inv .1)
+          (called .ensures) (not-false (called .result) (c .if1 .left)),
+    )
+
+returns-2 : tie.Need-returns-2 Inv-loop μ-loop
+returns-2 c =
+    let a = c .before .before .before .before .args in
+    let b = a .buffer in
+    reached-end (a .count) (a .threads .now) (a .targets .now) (awaited b) (markOf b) (a .words) (a .holders .now) (a .states .now)
+    (c .before .loop .i) (c .before .loop .states) (c .loop-test .left) (c .before .loop .inv .1)
+
+pub each-waits-spec : {M : Type 1} → statement M
+each-waits-spec =
+    tie.close
+    (tie.spec
+    Inv-loop
+    μ-loop
+    loop-holds
+    shared-slice-read-thread
+    mul-word
+    shared-slice-read-word
+    waits-requires
+    returns
+    add-i
+    loop-less
+    loop-again
+    returns-2)

@@ -1,0 +1,30 @@
+-- `waiting_entries::undos_wait` meets its contract, by what the walk finds and leaves.
+use borrow.Author.Needs.{needs}
+use Rattle.model.proofs.Lists.{both-left}
+use Rattle.state.specs.StateOf.{entriesLent}
+use Rattle.state.proofs.Walking.{undos-walked}
+use Rattle.state.proofs.waiting_entries.undos_wait.Statement.{statement}
+use Rattle.state.proofs.waiting_entries.undos_wait.Tie as tie
+
+each-waits-requires : tie.Need-each-waits-requires
+each-waits-requires c κs = search needs
+
+cast-all-settled : tie.Need-cast-all-settled
+cast-all-settled c = search needs
+
+all-settled-requires : tie.Need-all-settled-requires
+all-settled-requires c κs = search needs
+
+returns : tie.Need-returns
+returns c =
+    let a = c .before .before .before .before .before .before .args in
+    let each = c .before .before .each-waits in
+    let settled = c .all-settled in (
+      undos-walked (a .words) (a .holders .now) (a .states .now) (entriesLent (a .count) (a .threads .now) (a .targets .now)) (each .last .1 .1 .0)
+          (each .result) (settled .result) (each .ensures) (settled .ensures (a .holders .now)),
+      (each .ensures .size, λ passed. each .ensures .lines (both-left (each .result) (settled .result) passed)),
+    )
+
+pub undos-wait-spec : {M : Type 1} → statement M
+undos-wait-spec =
+    tie.close (tie.spec each-waits-requires cast-all-settled all-settled-requires returns)

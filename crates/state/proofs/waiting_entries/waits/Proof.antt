@@ -1,0 +1,92 @@
+-- `waiting_entries::waits` meets its contract, by what the arrays have of the entry's word.
+use Prim.Native.Nat.{_%_, _<_}
+use native.Mathlib.Omega.{arith}
+use borrow.Author.Tests.{not-true, not-false, lt-ltb}
+use borrow.Author.Needs.{needs}
+use Rattle.state.specs.declared.awaited.Buffer.{Buffer}
+use Rattle.state.specs.declared.awaited.Buffer.the-variants.{UndoRedo, Redo}
+use Rattle.state.specs.Linear.{awaited, markOf}
+use Rattle.state.proofs.Walking.{walked-unused, walked-not, walked-one}
+use Rattle.state.proofs.waiting_entries.waits.Statement.{statement}
+use Rattle.state.proofs.waiting_entries.waits.Tie as tie
+
+-- a mark is one of the four states
+mark-small : (b : Buffer) → markOf b < 4
+mark-small UndoRedo = omega arith
+mark-small Redo = omega arith
+
+returns : tie.Need-returns
+returns c =
+    let a = c .before .args in
+    walked-unused (awaited (a .buffer)) (markOf (a .buffer)) (a .words) (a .holders .now) (a .states .now) (a .thread) (a .word) (c .if1 .taken)
+
+cast-at : tie.Need-cast-at
+cast-at c = search needs
+
+cast-place : tie.Need-cast-place
+cast-place c = search needs
+
+mul-line : tie.Need-mul-line
+mul-line c = search needs
+
+element-copy-out-line : tie.Need-element-copy-out-line
+element-copy-out-line c = search needs
+
+state-at-requires : tie.Need-state-at-requires
+state-at-requires c κs = search needs
+
+waits-for-requires : tie.Need-waits-for-requires
+waits-for-requires c κs = search needs
+
+element-copy-out-if2 : tie.Need-element-copy-out-if2
+element-copy-out-if2 c = search needs
+
+returns-2 : tie.Need-returns-2
+returns-2 c =
+    let a = c .before .before .before .before .before .before .args in
+    let waits = c .before .before in
+    walked-not (awaited (a .buffer)) (markOf (a .buffer)) (a .words) (a .holders .now) (a .states .now) (a .thread) (a .word)
+    (waits .waits-for .result) (omega arith) (waits .before .before .before .if1 .left)
+    (rw (waits .before .state-at .ensures) at (waits .waits-for .ensures)) (not-true _ (c .if2 .taken))
+
+mark-requires : tie.Need-mark-requires
+mark-requires c κs = search needs
+
+with-state-requires : tie.Need-with-state-requires
+with-state-requires c κs = search needs
+
+mul-states : tie.Need-mul-states
+mul-states c = search needs
+
+element-write-states : tie.Need-element-write-states
+element-write-states c = search needs
+
+returns-3 : tie.Need-returns-3
+returns-3 c =
+    let a = c .before .before .before .before .before .before .before .before .args in
+    let waits = c .before .before .before .before in
+    walked-one (awaited (a .buffer)) (markOf (a .buffer)) (a .words) (a .holders .now) (a .states .now) (a .thread) (a .word)
+    (waits .waits-for .result) (omega arith) (waits .before .before .before .if1 .left)
+    (rw (waits .before .state-at .ensures) at (waits .waits-for .ensures)) (not-false _ (c .before .before .if2 .left)) (omega arith)
+    (waits .before .before .before .before .pre .1 .1) (c .with-state .result)
+    (rw (c .before .mark .ensures, lt-ltb (a .word % 8) 8 (omega arith), lt-ltb (markOf (a .buffer)) 4 (mark-small (a .buffer))) at
+    (c .with-state .ensures))
+
+pub waits-spec : {M : Type 1} → statement M
+waits-spec =
+    tie.close
+    (tie.spec
+    returns
+    cast-at
+    cast-place
+    mul-line
+    element-copy-out-line
+    state-at-requires
+    waits-for-requires
+    element-copy-out-if2
+    returns-2
+    mark-requires
+    with-state-requires
+    mul-states
+    element-write-states
+    returns-3)

@@ -1,0 +1,95 @@
+-- The test of a consistent state in time linear in lines and entries: each entry is looked at once, and its word
+-- marked, so that a second entry of the same word is noticed.
+use Prim.Native.Nat.{ℕ, zero, suc, _+_, _/_, _%_, _^_, _<_}
+use mathlib.Core.Path.{_≡_}
+use mathlib.Core.Bool.{Bool, true, false, _&&_, _||_, not}
+use mathlib.Core.List.{List, [], _∷_}
+use lib.Dec.{eqb, ltb, leb}
+use lib.ListN.{length, getD}
+use Rattle.log.specs.Region.{numbers}
+use Rattle.parts.specs.declared.Entry.{Entry}
+use Rattle.parts.specs.declared.Line.{Line}
+use Rattle.parts.specs.Lines.{nobody}
+use Rattle.parts.specs.States.{Clean, Dirty, URLog, ULog}
+use Rattle.model.specs.Lists.{all}
+use Rattle.model.specs.Machine.{Machine, stateIn, holderIn, marked}
+use Rattle.model.specs.Consistent.{isWidth}
+use Rattle.state.specs.declared.awaited.Buffer.{Buffer}
+use Rattle.state.specs.declared.awaited.Buffer.the-variants.{UndoRedo, Redo}
+use Rattle.state.specs.StateOf.{linesLent}
+
+-- the numbers are within their limits, head and tail in order
+unfoldable pub inLimits : ℕ → ℕ → ℕ → ℕ → ℕ → ℕ → Bool
+inLimits words slots head tail undos redos =
+    (leb head numbers && leb tail numbers) &&
+    ((isWidth words && (leb 8 slots && leb slots 1024)) &&
+    ((leb undos 16 && leb redos 32) && (leb head tail && leb tail (head + slots))))
+
+-- a thread with an open transaction holds the line, or nobody does and its words are all Clean
+unfoldable pub lineSound : List Bool → Line → Bool
+lineSound opened line =
+    ltb (line .states) (2 ^ 16) &&
+    ((ltb (line .holder) 8 && getD opened (line .holder) false) || (eqb (line .holder) nobody && eqb (line .states) 0))
+
+-- bit t of a number is set where thread t has an open transaction
+abbrev pub OpenBits : List Bool → ℕ → Type 0
+OpenBits opened bits = (t : ℕ) → t < 8 → eqb (bits / 2 ^ t % 2) 1 ≡ getD opened t false
+
+-- undo+redo entries wait for Dirty words, redo entries for Clean ones
+abbrev pub awaited : Buffer → ℕ
+awaited UndoRedo = Dirty
+awaited Redo = Clean
+
+-- the state that marks a word once its entry was looked at
+abbrev pub markOf : Buffer → ℕ
+markOf UndoRedo = URLog
+markOf Redo = ULog
+
+-- an entry's word is in the wanted state, and its thread holds the word's line
+unfoldable pub waitsFor : ℕ → ℕ → List Line → Entry → Bool
+waitsFor wanted words ls e =
+    ltb (e .word) words &&
+    (ltb (e .thread) 8 && (eqb (e .thread) (holderIn ls (e .word)) && eqb (stateIn ls (e .word)) wanted))
+
+-- the same of each entry in turn, the word of each marked with another state once it was looked at
+unfoldable pub eachWaits : ℕ → ℕ → ℕ → List Line → List Entry → Bool
+eachWaits wanted next words ls [] = true
+eachWaits wanted next words ls (e ∷ es) =
+    waitsFor wanted words ls e && eachWaits wanted next words (marked next (e .word) ls) es
+
+-- the lines after that
+unfoldable pub allMarked : ℕ → List Line → List Entry → List Line
+allMarked next ls [] = ls
+allMarked next ls (e ∷ es) = allMarked next (marked next (e .word) ls) es
+
+-- none of the n lowest words of a line is Dirty
+unfoldable pub noneDirty : ℕ → ℕ → Bool
+noneDirty zero states = true
+noneDirty (suc n) states = not (eqb (states % 4) Dirty) && noneDirty n (states / 4)
+
+-- no word of a line is Dirty
+abbrev pub settledLine : Line → Bool
+settledLine line = noneDirty 8 (line .states)
+
+-- undo+redo entries wait for Dirty words, and none of these is without an entry
+unfoldable pub undosWait : ℕ → List Line → List Entry → Bool
+undosWait words ls es = eachWaits Dirty URLog words ls es && all settledLine (allMarked URLog ls es)
+
+-- redo entries wait for Clean words
+unfoldable pub redosWait : ℕ → List Line → List Entry → Bool
+redosWait words ls es = eachWaits Clean ULog words ls es
+
+unfoldable pub linear : Machine → Bool
+linear m =
+    inLimits (m .sizes .words) (m .sizes .slots) (m .span .head) (m .span .tail) (length (m .buffers .undoRedo))
+    (length (m .buffers .redo)) &&
+    (all (lineSound (m .opened)) (m .lines) &&
+    (undosWait (m .sizes .words) (m .lines) (m .buffers .undoRedo) && redosWait (m .sizes .words) (m .lines)
+    (m .buffers .redo)))
+
+-- What a walk over entries finds: whether each waits, and if so their words are marked in the states that it leaves.
+pub record Walked (wanted next words : ℕ) (holders before : List ℕ) (es : List Entry) (r : Bool)
+    (after : List ℕ) : Type 0 where
+  pub size : length after ≡ length before
+  pub each : r ≡ eachWaits wanted next words (linesLent (words / 8) holders before) es
+  pub lines : r ≡ true → linesLent (words / 8) holders after ≡ allMarked next (linesLent (words / 8) holders before) es

@@ -1,0 +1,30 @@
+// Whether no word of the lines is Dirty. A line is tested by masks, its eight words at once.
+ghost use mathlib.Core.Path.{_≡_};
+ghost use mathlib.Core.List.{List};
+ghost use Prim.Native.Nat.{ℕ, _≤_};
+ghost use Rattle.model.specs.Lists.{all};
+ghost use Rattle.state.specs.StateOf.{linesLent};
+ghost use Rattle.state.specs.Linear.{noneDirty, settledLine};
+
+// No word of a line is Dirty: where the low bit of a state is set, so is the high one.
+fn is_settled(states: u16) -> bool
+    ensures { λ r. ⌜ r ≡ noneDirty 8 states ⌝ }
+{
+    let low = states & 0x5555;
+    let high = (states >> 1) & 0x5555;
+    low & high == low
+}
+
+// No word of the first lines is Dirty.
+pub(crate) fn all_settled(count: usize, states: &[u16; 64]) -> bool
+    requires { ⌜ count ≤ 64 ⌝ }
+    ensures { λ r. ⌜ ((holders : List ℕ) → r ≡ all settledLine (linesLent count holders (now (states .entry)))) ⌝ }
+{
+    let mut settled = true;
+    let mut i = 0;
+    while i < count {
+        settled = settled & is_settled(states[i]);
+        i += 1;
+    }
+    settled
+}

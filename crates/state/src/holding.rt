@@ -1,0 +1,58 @@
+// The lines: who holds them.
+ghost use mathlib.Core.Path.{_≡_};
+ghost use mathlib.Core.Bool.{Bool, cond};
+ghost use mathlib.Core.List.{List};
+ghost use Prim.Native.Nat.{_≤_};
+ghost use Rattle.model.specs.Lists.{all};
+ghost use Rattle.state.specs.StateOf.{bareLine, linesLent};
+ghost use Rattle.state.specs.Linear.{lineSound, OpenBits};
+
+fn bit(set: bool) -> u32
+    ensures { λ r. ⌜ r ≡ cond set 1 0 ⌝ }
+{
+    if set { 1 } else { 0 }
+}
+
+// The threads with an open transaction, as bits: thread 0 lowest.
+fn open_bits(opened: &[bool; 8]) -> u32
+    ensures { λ r. ⌜ OpenBits (now (opened .entry)) r ⌝ }
+{
+    let mut bits = 0;
+    let mut t = 8;
+    while 0 < t {
+        t -= 1;
+        bits = 2 * bits + bit(opened[t]);
+    }
+    bits
+}
+
+// A line is held by a thread with an open transaction, or free and all Clean.
+fn line_sound(bits: u32, holder: u8, states: u16) -> bool
+    ensures { λ r. ⌜ ((opened : List Bool) → OpenBits opened bits → r ≡ lineSound opened (bareLine holder states)) ⌝ }
+{
+    let thread = (holder % 8) as u32;
+    let held = (holder < 8) & ((bits >> thread) & 1 == 1);
+    let free = (holder == 255) & (states == 0);
+    held | free
+}
+
+// Each of the first lines is.
+pub(crate) fn lines_sound<'a>(
+    count: usize,
+    opened: &'a [bool; 8],
+    holders: &'a [u8; 64],
+    states: &'a [u16; 64],
+) -> bool
+    requires { ⌜ count ≤ 64 ⌝ }
+    ensures { λ r. ⌜ r ≡ all (lineSound (now (opened .entry))) (linesLent count (now (holders .entry)) (now
+        (states .entry))) ⌝ }
+{
+    let bits = open_bits(opened);
+    let mut sound = true;
+    let mut i = 0;
+    while i < count {
+        sound = sound & line_sound(bits, holders[i], states[i]);
+        i += 1;
+    }
+    sound
+}

@@ -1,0 +1,142 @@
+// The entries of the two buffers, and the words that they wait for.
+ghost use mathlib.Core.Path.{_≡_};
+ghost use mathlib.Core.Bool.{true, _&&_};
+ghost use mathlib.Core.List.{[], _∷_};
+ghost use Prim.Native.Nat.{_/_, _%_, _≤_};
+ghost use lib.ListN.{length};
+ghost use Rattle.parts.specs.States.{URLog};
+ghost use Rattle.state.specs.StateOf.{bareEntry, linesLent, entriesLent};
+ghost use Rattle.state.specs.Linear.{awaited, markOf, allMarked, undosWait, redosWait, Walked};
+use crate::awaited::Buffer;
+use crate::dirty_words::all_settled;
+
+// One entry of the buffer waits for its word. If it does, the word is marked.
+fn waits(
+    words: u16,
+    holders: &[u8; 64],
+    states: &mut [u16; 64],
+    thread: u8,
+    word: u16,
+    buffer: Buffer,
+) -> bool
+    requires { ⌜ (words ≤ 512) × ((words % 8 ≡ 0) × (length (now states) ≡ 64)) ⌝ }
+    ensures { λ r. ⌜ Walked (awaited buffer) (markOf buffer) words (now (holders .entry)) (now (states .entry))
+        (bareEntry thread word ∷ []) r (now (states .exit)) ⌝ }
+{
+    if words <= word {
+        return false;
+    }
+    let at = (word / 8) as usize;
+    let place = (word % 8) as u64;
+    let line = states[at];
+    let found = buffer.waits_for(lines::state_at(line, place));
+    if !((thread < 8) & ((thread == holders[at]) & found)) {
+        return false;
+    }
+    states[at] = lines::with_state(line, place, buffer.mark());
+    true
+}
+
+// Each entry waits for its word, and no two for the same.
+fn each_waits<'a>(
+    words: u16,
+    holders: &'a [u8; 64],
+    states: &mut [u16; 64],
+    count: usize,
+    threads: &'a [u8],
+    targets: &'a [u16],
+    buffer: Buffer,
+) -> bool
+    requires { ⌜ (words ≤ 512) × ((words % 8 ≡ 0) × ((length (now states) ≡ 64)
+        × ((count ≤ length (now threads)) × (count ≤ length (now targets))))) ⌝ }
+    ensures { λ r. ⌜ Walked (awaited buffer) (markOf buffer) words (now (holders .entry)) (now (states .entry))
+        (entriesLent count (now (threads .entry)) (now (targets .entry))) r (now (states .exit)) ⌝ }
+{
+    let mut i = 0;
+    while i < count {
+        let thread = threads[i];
+        let word = targets[i];
+        if !waits(words, holders, states, thread, word, buffer) {
+            return false;
+        }
+        i += 1;
+    }
+    true
+}
+
+// The undo+redo entries wait for Dirty words, and none of these is without an entry. If so, their words are marked in
+// the states.
+fn undos_wait<'a>(
+    words: u16,
+    holders: &'a [u8; 64],
+    states: &mut [u16; 64],
+    count: usize,
+    threads: &'a [u8; 16],
+    targets: &'a [u16; 16],
+) -> bool
+    requires { ⌜ (words ≤ 512) × ((words % 8 ≡ 0) × ((length (now states) ≡ 64) × (count ≤ 16))) ⌝ }
+    ensures { λ r. ⌜ r ≡ undosWait words (linesLent (words / 8) (now (holders .entry)) (now (states .entry)))
+        (entriesLent count (now (threads .entry)) (now (targets .entry))) ⌝ }
+    ensures { λ r. ⌜ length (now (states .exit)) ≡ length (now (states .entry)) ⌝ }
+    ensures { λ r. ⌜ (r ≡ true → linesLent (words / 8) (now (holders .entry)) (now (states .exit))
+        ≡ allMarked URLog (linesLent (words / 8) (now (holders .entry)) (now (states .entry)))
+        (entriesLent count (now (threads .entry)) (now (targets .entry)))) ⌝ }
+{
+    let each = each_waits(
+        words,
+        holders,
+        states,
+        count,
+        threads,
+        targets,
+        Buffer::UndoRedo,
+    );
+    each & all_settled((words / 8) as usize, states)
+}
+
+// The redo entries wait for Clean words.
+fn redos_wait<'a>(
+    words: u16,
+    holders: &'a [u8; 64],
+    states: &mut [u16; 64],
+    count: usize,
+    threads: &'a [u8; 32],
+    targets: &'a [u16; 32],
+) -> bool
+    requires { ⌜ (words ≤ 512) × ((words % 8 ≡ 0) × ((length (now states) ≡ 64) × (count ≤ 32))) ⌝ }
+    ensures { λ r. ⌜ r ≡ redosWait words (linesLent (words / 8) (now (holders .entry)) (now (states .entry)))
+        (entriesLent count (now (threads .entry)) (now (targets .entry))) ⌝ }
+{
+    each_waits(
+        words,
+        holders,
+        states,
+        count,
+        threads,
+        targets,
+        Buffer::Redo,
+    )
+}
+
+// Both. The redo entries are looked at in the states that the undo+redo entries have left: these mark no Clean word.
+pub(crate) fn all_wait<'a>(
+    words: u16,
+    holders: &'a [u8; 64],
+    mut states: [u16; 64],
+    undos: usize,
+    undo_threads: &'a [u8; 16],
+    undo_words: &'a [u16; 16],
+    redos: usize,
+    redo_threads: &'a [u8; 32],
+    redo_words: &'a [u16; 32],
+) -> bool
+    requires { ⌜ (words ≤ 512) × ((words % 8 ≡ 0) × ((undos ≤ 16) × (redos ≤ 32))) ⌝ }
+    ensures { λ r. ⌜ r ≡ (undosWait words (linesLent (words / 8) (now (holders .entry)) states)
+        (entriesLent undos (now («undo_threads» .entry)) (now («undo_words» .entry)))
+        && redosWait words (linesLent (words / 8) (now (holders .entry)) states)
+        (entriesLent redos (now («redo_threads» .entry)) (now («redo_words» .entry)))) ⌝ }
+{
+    let before = undos_wait(words, holders, &mut states, undos, undo_threads, undo_words);
+    let after = redos_wait(words, holders, &mut states, redos, redo_threads, redo_words);
+    before & after
+}

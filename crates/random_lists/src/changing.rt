@@ -201,7 +201,7 @@ fn redos(mut state: Fields, t: Trouble, w: u64) -> Fields {
 }
 
 // Each of them changes the state in its own cases.
-pub fn changed(state: Fields, t: Trouble, plan: Plan) -> Fields {
+pub(crate) fn changed(state: Fields, t: Trouble, plan: Plan) -> Fields {
     if (t.case < 13) | (t.case > 29) {
         return state;
     }

@@ -37,7 +37,7 @@ pub struct Run {
     pub c: u64,
 }
 
-pub fn no_run() -> Run {
+pub(crate) fn no_run() -> Run {
     Run {
         x: 0,
         at: 0,

@@ -3,12 +3,12 @@ use crate::generator::GOLD;
 use crate::numbers::sum;
 
 // "fold(v)"
-pub fn fold(digest: u64, v: u64) -> u64 {
+pub(crate) fn fold(digest: u64, v: u64) -> u64 {
     sum(((digest << 5) ^ (digest >> 59)) ^ v, GOLD)
 }
 
 // The first n words, rising
-pub fn fold_words(digest: u64, n: u64, words: &[u64]) -> u64 {
+pub(crate) fn fold_words(digest: u64, n: u64, words: &[u64]) -> u64 {
     let mut folded = digest;
     let mut i = 0;
     while i < words.len() {

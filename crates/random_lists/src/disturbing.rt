@@ -39,7 +39,7 @@ pub struct Trouble {
     pub new: u64,
 }
 
-pub fn no_trouble(x: u64) -> Trouble {
+pub(crate) fn no_trouble(x: u64) -> Trouble {
     Trouble {
         x,
         mend: 1,

@@ -12,14 +12,14 @@ pub struct Drawn {
 }
 
 // The result is the new x.
-pub fn raw(x: u64) -> u64 {
+pub(crate) fn raw(x: u64) -> u64 {
     let a = x ^ (x << 13);
     let b = a ^ (a >> 7);
     b ^ (b << 17)
 }
 
 // least + draw(k)
-pub fn draw_from(least: u64, x: u64, k: u64) -> Drawn {
+pub(crate) fn draw_from(least: u64, x: u64, k: u64) -> Drawn {
     let next = raw(x);
     Drawn {
         x: next,
@@ -27,12 +27,12 @@ pub fn draw_from(least: u64, x: u64, k: u64) -> Drawn {
     }
 }
 
-pub fn draw(x: u64, k: u64) -> Drawn {
+pub(crate) fn draw(x: u64, k: u64) -> Drawn {
     draw_from(0, x, k)
 }
 
 // draw(k) where `drawn`; otherwise nothing is drawn, and the result is `other`.
-pub fn draw_if(drawn: bool, x: u64, k: u64, other: u64) -> Drawn {
+pub(crate) fn draw_if(drawn: bool, x: u64, k: u64, other: u64) -> Drawn {
     if drawn {
         draw(x, k)
     } else {
@@ -40,7 +40,7 @@ pub fn draw_if(drawn: bool, x: u64, k: u64, other: u64) -> Drawn {
     }
 }
 
-pub fn pick(x: u64, a: u64, b: u64, c: u64, d: u64) -> Drawn {
+pub(crate) fn pick(x: u64, a: u64, b: u64, c: u64, d: u64) -> Drawn {
     let next = raw(x);
     Drawn {
         x: next,
@@ -49,7 +49,7 @@ pub fn pick(x: u64, a: u64, b: u64, c: u64, d: u64) -> Drawn {
 }
 
 // "For list n, x starts as GOLD + n; then `raw` is called 16 times and the results are dropped."
-pub fn seeded(n: u64) -> u64 {
+pub(crate) fn seeded(n: u64) -> u64 {
     let mut x = sum(GOLD, n);
     let mut i = 0u64;
     while i < 16 {

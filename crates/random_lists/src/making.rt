@@ -49,7 +49,7 @@ fn least(a: u64, b: usize) -> usize
     if a < b as u64 { a as usize } else { b }
 }
 
-pub fn lent_in(case: u64, w: u64, l: u64) -> Lent
+pub(crate) fn lent_in(case: u64, w: u64, l: u64) -> Lent
     ensures { λ (r : Lent). ⌜ (r .home ≤ 512) × ((r .working ≤ 512) × (r .log ≤ 3073)) ⌝ }
 {
     let all = 1 + 3 * (l % 2048);
@@ -62,7 +62,7 @@ pub fn lent_in(case: u64, w: u64, l: u64) -> Lent
     }
 }
 
-pub fn made(
+pub(crate) fn made(
     state: State,
     run: Run,
     home: &mut [u64],

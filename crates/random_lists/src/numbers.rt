@@ -1,25 +1,25 @@
 // "All numbers are 64-bit words; `+` and `<<` drop what goes beyond bit 63."
 pub const MAX: u64 = 0xffff_ffff_ffff_ffff;
 
-pub fn sum(a: u64, b: u64) -> u64 {
+pub(crate) fn sum(a: u64, b: u64) -> u64 {
     std::num::wrapping_add_u64(a, b)
 }
 
-pub fn less(a: u64, b: u64) -> u64 {
+pub(crate) fn less(a: u64, b: u64) -> u64 {
     std::num::wrapping_sub_u64(a, b)
 }
 
 // a % k, and 0 where k is 0
-pub fn rest(a: u64, k: u64) -> u64 {
+pub(crate) fn rest(a: u64, k: u64) -> u64 {
     if k == 0 { 0 } else { a % k }
 }
 
-pub fn either(first: bool, a: u64, b: u64) -> u64 {
+pub(crate) fn either(first: bool, a: u64, b: u64) -> u64 {
     if first { a } else { b }
 }
 
 // [a, b, c, d][i % 4]
-pub fn one_of(i: u64, a: u64, b: u64, c: u64, d: u64) -> u64 {
+pub(crate) fn one_of(i: u64, a: u64, b: u64, c: u64, d: u64) -> u64 {
     match i % 4 {
         0 => a,
         1 => b,
@@ -29,7 +29,7 @@ pub fn one_of(i: u64, a: u64, b: u64, c: u64, d: u64) -> u64 {
 }
 
 // [a, b, c, d, e][i], and `other` from 5 on
-pub fn nth(i: u64, a: u64, b: u64, c: u64, d: u64, e: u64, other: u64) -> u64 {
+pub(crate) fn nth(i: u64, a: u64, b: u64, c: u64, d: u64, e: u64, other: u64) -> u64 {
     match i {
         0 => a,
         1 => b,

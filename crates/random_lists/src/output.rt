@@ -12,7 +12,7 @@ fn number(label: &[u8], n: u64) {
 }
 
 // "16 lower-case hexadecimal digits, one line each"
-pub fn digest(n: u64) {
+pub(crate) fn digest(n: u64) {
     io::print_hex(STDOUT_FILENO, n, 16);
     print(b"\n");
 }
@@ -24,7 +24,7 @@ fn answer(a: u64, n: u64) {
     print(b"\n");
 }
 
-pub fn answers(counts: [u64; 17]) {
+pub(crate) fn answers(counts: [u64; 17]) {
     let mut a = 0;
     while a < 16 {
         answer(a, counts[(a % 16) as usize]);
@@ -34,7 +34,7 @@ pub fn answers(counts: [u64; 17]) {
 }
 
 // "Then `lists 3600, steps M`."
-pub fn total(steps: u64) {
+pub(crate) fn total(steps: u64) {
     number(b"lists 3600, steps ", steps);
     print(b"\n");
 }

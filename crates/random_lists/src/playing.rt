@@ -150,7 +150,7 @@ fn play(
 }
 
 // List n
-pub fn with_list(n: u64, before: Score) -> Score {
+pub(crate) fn with_list(n: u64, before: Score) -> Score {
     let mut home = [0u64; 512];
     let mut working = [0u64; 512];
     let mut log = [0u64; 3073];

@@ -108,14 +108,14 @@ impl Plan {
 }
 
 // Lines 1 to 15
-pub fn planned(n: u64, x: u64) -> Plan {
+pub(crate) fn planned(n: u64, x: u64) -> Plan {
     let plan = drawn(x);
     let replaced = plan.replaced(row_of(n));
     replaced.placed()
 }
 
 // Lines 16 and 17: draw(4) each for home, raw each for working. Hands back the new x.
-pub fn fill(x: u64, w: u64, words: &mut [u64; 512], home: bool) -> u64 {
+pub(crate) fn fill(x: u64, w: u64, words: &mut [u64; 512], home: bool) -> u64 {
     let mut r = x;
     let mut i = 0;
     while i < w {
@@ -132,7 +132,7 @@ fn header(m: u64, l: u64) -> u64 {
 }
 
 // Line 18
-pub fn fill_log(head: u64, l: u64, log: &mut [u64; 3073]) {
+pub(crate) fn fill_log(head: u64, l: u64, log: &mut [u64; 3073]) {
     log[0] = head;
     let mut i = 0;
     while i < l {

@@ -21,12 +21,12 @@ pub const RECOVER: u64 = 8;
 pub const SHIFT: u64 = 0x0104_6133_4000_0000;
 
 // The hexadecimal digit of a row at a position from 0 to 15
-pub fn digit(row: u64, at: u64) -> u64 {
+pub(crate) fn digit(row: u64, at: u64) -> u64 {
     (row >> (60 - 4 * (at % 16))) % 16
 }
 
 // "Script, one row for each profile": a hexadecimal digit for each of the positions 0 to 15
-pub fn script(profile: u64) -> u64 {
+pub(crate) fn script(profile: u64) -> u64 {
     match profile {
         0 => 0x1212_4567_0121_4368,
         1 => 0x1651_7616_5717_2657,
@@ -40,7 +40,7 @@ pub fn script(profile: u64) -> u64 {
 }
 
 // "Longest, one row for each profile": kinds 0 to 8
-pub fn longest(profile: u64, kind: u64) -> u64 {
+pub(crate) fn longest(profile: u64, kind: u64) -> u64 {
     let row = match profile {
         0 | 1 => [1, 8, 4, 3, 3, 4, 1, 8, 1],
         2 | 4 => [1, 24, 12, 6, 8, 8, 1, 8, 1],

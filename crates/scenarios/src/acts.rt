@@ -52,46 +52,37 @@ const HEAD: u64 = 0x68_65_61_64;
 
 const SLOT: u64 = 0x73_6c_6f_74;
 
-// A step, or something else.
-enum Deed {
-    Made(Step),
+// What a command asks for: a step, or something else.
+enum Act {
+    Step(Step),
     Other,
 }
 
-// The step of a command; of a store that is made several times the one that is `later` by so many words.
-fn deed_of(c: Command, later: u64) -> Deed {
+// What a command asks for, where a store's word is `place`.
+fn act_of(c: Command, place: u64) -> Act {
     let n = c.numbers[0];
     let verb = c.verb;
     match verb {
-        RECOVER => Deed::Made(Step::Recover),
-        BEGIN => Deed::Made(Step::Begin { thread: n }),
-        STORE => Deed::Made(Step::Store {
+        RECOVER => Act::Step(Step::Recover),
+        BEGIN => Act::Step(Step::Begin { thread: n }),
+        STORE => Act::Step(Step::Store {
             thread: c.thread,
-            word: std::num::wrapping_add_u64(c.word, later),
+            word: place,
             value: n,
         }),
-        LOG_UNDO => Deed::Made(Step::LogUndo),
-        LOG_REDO => Deed::Made(Step::LogRedo),
-        SET_DOWN => Deed::Made(Step::Evict { line: n }),
-        WRITE_HOME => Deed::Made(Step::WriteBack { line: n }),
-        COMMIT => Deed::Made(Step::Commit { thread: n }),
-        DELETE => Deed::Made(Step::DeleteOldest),
-        _ => Deed::Other,
+        LOG_UNDO => Act::Step(Step::LogUndo),
+        LOG_REDO => Act::Step(Step::LogRedo),
+        SET_DOWN => Act::Step(Step::Evict { line: n }),
+        WRITE_HOME => Act::Step(Step::WriteBack { line: n }),
+        COMMIT => Act::Step(Step::Commit { thread: n }),
+        DELETE => Act::Step(Step::DeleteOldest),
+        _ => Act::Other,
     }
 }
 
 impl Bench {
-    // What home word 0, working word 0 or the log's head is expected to be.
-    fn expects(mut self, place: usize, value: u64) -> Bench {
-        if place < 3 {
-            self.ends[place] = value;
-        }
-        self.given = std::num::wrapping_add_u64(self.given, 1);
-        self
-    }
-
-    // A command that is no step.
-    fn changes(mut self, verb: u64, numbers: [u64; 4]) -> Bench {
+    // A command that is no step. What is expected of home or working is the word at `place`.
+    fn changes(mut self, verb: u64, numbers: [u64; 4], place: u64) -> Bench {
         let a = numbers[0];
         let b = numbers[1];
         let c = numbers[2];
@@ -105,9 +96,13 @@ impl Bench {
             ADD_REDO => self.adds_redo(a, b),
             REDOS => self.redos(a),
             CLOSE => self.closes(a),
-            HOME => self.expects(0, a),
-            WORKING => self.expects(1, a),
-            HEAD => self.expects(2, a),
+            HOME => self.expects_home(place, a),
+            WORKING => self.expects_working(place, a),
+            HEAD => {
+                self.head_named = true;
+                self.head_end = a;
+                self
+            }
             SLOT => self.expects_slot(a, b, c, numbers[3]),
             _ => {
                 self.known = false;
@@ -116,14 +111,15 @@ impl Bench {
         }
     }
 
-    // A command once.
+    // A command once, of the word that comes `later` words after the one that it names.
     fn acts(self, c: Command, later: u64) -> Bench {
-        let deed = deed_of(c, later);
-        match deed {
-            Deed::Made(step) => self.tries(c.supply, step),
-            Deed::Other => {
+        let place = std::num::wrapping_add_u64(c.word, later);
+        let act = act_of(c, place);
+        match act {
+            Act::Step(step) => self.tries(c.supply, step),
+            Act::Other => {
                 let numbers = c.numbers;
-                self.changes(c.verb, numbers)
+                self.changes(c.verb, numbers, place)
             }
         }
     }

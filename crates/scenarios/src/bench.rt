@@ -1,19 +1,28 @@
 // A scenario under way: the state and the buffers, and what came out and what is expected.
+use crate::expected::Expected;
+use crate::expected::WORDS;
 use crate::lists::least;
 use crate::lists::same;
 use crate::lists::within;
+use crate::making::is_recover;
+use crate::making::made;
+use crate::states::same_state;
 use machine::State;
 use parts::Step;
+use state::CUT;
+use state::DONE;
 
 // The room for steps, and for slots that are shown.
 const STEPS: usize = 32;
 
 const SHOWN: usize = 4;
 
-// `lent` has the lengths that are lent of home, working and log. `answer` and `made` are of the steps since the last note: the first
-// answer that is not 0, and the stores of all. `kept` tells that no refused step has changed a buffer, `known` that the table's text
-// was understood. At the end home word 0, working word 0 and the log's head are expected to be `ends`, once `given` is 3, and the
-// slots `slots` to have the words `shown`, three each.
+// `lent` has the lengths that are lent of home, working and log. `answer` and `made` are of the steps since the last
+// note: the first answer that is not 0, and the stores of all. `kept` tells that no refused step has changed a buffer,
+// `kept_state` that none has changed the state (a refused recover takes none), `left_lost` that each cut and each
+// refused recover has left the lost state, `known` that the table's text was understood. At the end home and working
+// are expected to have the words of `home_end` and `working_end`, the log's head, once `head_named`, to be `head_end`,
+// and the slots `slots` to have the words `shown`, three each.
 pub struct Bench {
     pub state: State,
     pub home: [u64; 64],
@@ -28,17 +37,25 @@ pub struct Bench {
     pub stores: [u64; 32],
     pub allowed: [u64; 32],
     pub kept: bool,
+    pub kept_state: bool,
+    pub left_lost: bool,
     pub known: bool,
-    pub given: u64,
-    pub ends: [u64; 3],
+    pub home_end: Expected,
+    pub working_end: Expected,
+    pub head_named: bool,
+    pub head_end: u64,
     pub slots: [usize; 4],
     pub shown: [u64; 12],
     pub shows: usize,
 }
 
 // W = 8, L = 8, home 0, and a fresh log.
-pub fn fresh() -> Bench {
+pub(crate) fn fresh() -> Bench {
     let state = State::lost();
+    let zeros = Expected {
+        words: [0; 64],
+        shown: 0,
+    };
     Bench {
         state,
         home: [0; 64],
@@ -53,9 +70,13 @@ pub fn fresh() -> Bench {
         stores: [0; 32],
         allowed: [0; 32],
         kept: true,
+        kept_state: true,
+        left_lost: true,
         known: true,
-        given: 0,
-        ends: [0; 3],
+        home_end: zeros,
+        working_end: zeros,
+        head_named: false,
+        head_end: 0,
         slots: [0; 4],
         shown: [0; 12],
         shows: 0,
@@ -74,15 +95,31 @@ impl Bench {
         let a = self.home;
         let b = self.working;
         let c = self.log;
-        if (answer != 0) & (answer != 255) {
-            let words = same(64, &a, &home) & same(64, &b, &working);
-            self.kept = self.kept & (words & same(256, &c, &log));
+        if (answer != DONE) & (answer != CUT) {
+            let words = same(0, 64, &a, &home) & same(0, 64, &b, &working);
+            self.kept = self.kept & (words & same(0, 256, &c, &log));
         }
         self.home = home;
         self.working = working;
         self.log = log;
-        if self.answer == 0 {
+        if self.answer == DONE {
             self.answer = answer;
+        }
+        self
+    }
+
+    // The state after a step: a cut or a refused recover leaves the lost one, another refused step the one that it
+    // took.
+    fn now_is(mut self, next: State, recovered: bool, answer: u64) -> Bench {
+        let taken = self.state;
+        self.state = next;
+        if answer == DONE {
+            return self;
+        }
+        if recovered | (answer == CUT) {
+            self.left_lost = self.left_lost & same_state(next, State::lost());
+        } else {
+            self.kept_state = self.kept_state & same_state(next, taken);
         }
         self
     }
@@ -96,7 +133,8 @@ impl Bench {
         let h = within(self.lent[0], &home);
         let w = within(self.lent[1], &working);
         let l = within(self.lent[2], &log);
-        let r = state.step(
+        let r = made(
+            state,
             step,
             &mut home[..h],
             &mut working[..w],
@@ -104,10 +142,10 @@ impl Bench {
             supply,
         );
         let next = r.state;
-        self.state = next;
         let stores = std::num::wrapping_sub_u64(supply, r.left);
         self.made = std::num::wrapping_add_u64(self.made, stores);
-        self.now_has(home, working, log, r.answer)
+        let after = self.now_is(next, is_recover(step), r.answer);
+        after.now_has(home, working, log, r.answer)
     }
 
     // What came out since the last note, and the answer and the stores that are expected.
@@ -124,6 +162,23 @@ impl Bench {
         }
         self.answer = 0;
         self.made = 0;
+        self
+    }
+
+    // At the end a word of home, or of working, is expected to be this.
+    pub(crate) fn expects_home(mut self, place: u64, value: u64) -> Bench {
+        let end = self.home_end;
+        let next = end.with(place, value);
+        self.home_end = next;
+        self.known = self.known & (place < WORDS as u64);
+        self
+    }
+
+    pub(crate) fn expects_working(mut self, place: u64, value: u64) -> Bench {
+        let end = self.working_end;
+        let next = end.with(place, value);
+        self.working_end = next;
+        self.known = self.known & (place < WORDS as u64);
         self
     }
 

@@ -3,7 +3,9 @@ use crate::bench::Bench;
 use crate::command::AMPLE;
 use crate::lists::least;
 use crate::lists::within;
+use crate::states::same_state;
 use machine::State;
+use state::DONE;
 use state::Fields;
 
 // A number as one of 16 bits, at most 65535.
@@ -16,10 +18,11 @@ fn byte(n: u64) -> u8 {
     if n < 255 { n as u8 } else { 255 }
 }
 
-// What came out of a step.
+// What came out of a recovery; `right` tells that it was done or left the lost state.
 struct Reply {
     answer: u64,
     stores: u64,
+    right: bool,
 }
 
 // A recovery of larger buffers, all zeros: home, working and log have these lengths.
@@ -31,9 +34,11 @@ fn recovery(words: u64, log: u64) -> Reply {
     let w = within(words, &working);
     let l = within(log, &region);
     let r = State::recover(&mut home[..h], &mut working[..w], &mut region[..l], AMPLE);
+    let state = r.state;
     Reply {
         answer: r.answer,
         stores: std::num::wrapping_sub_u64(AMPLE, r.left),
+        right: (r.answer == DONE) | same_state(state, State::lost()),
     }
 }
 
@@ -55,6 +60,7 @@ impl Bench {
         let r = recovery(words, log);
         self.answer = r.answer;
         self.made = r.stores;
+        self.left_lost = self.left_lost & r.right;
         self
     }
 

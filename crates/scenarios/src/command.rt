@@ -20,10 +20,10 @@ const TIMES: u64 = 0x74_69_6d_65_73;
 // What stands before the answer and the stores that are expected: no word.
 const EXPECT: u64 = 0;
 
-// `verb` is the first word, `numbers` are the `count` numbers that belong to it. Of a step: `by` thread, `in` word, how many times,
-// and with which supply. `expects` numbers are expected of it: an answer, and stores. `ended` tells that the command is whole, `known`
-// that each byte so far was understood. The others are of the reading: the word before the next number, and the letters or the digits
-// of the one that is read.
+// `verb` is the first word, `numbers` are the `count` numbers that belong to it. Of a step: `by` thread, `in` word, how
+// many times, and with which supply. `expects` numbers are expected of it: an answer, and stores. `ended` tells that
+// the command is whole, `known` that each byte so far was understood. The others are of the reading: the word before
+// the next number, and the letters or the digits of the one that is read.
 pub struct Command {
     pub verb: u64,
     pub numbers: [u64; 4],
@@ -45,7 +45,7 @@ pub struct Command {
 }
 
 // Nothing read yet.
-pub fn none() -> Command {
+pub(crate) fn none() -> Command {
     Command {
         verb: 0,
         numbers: [0; 4],

@@ -1,13 +1,17 @@
-// Runs the scenarios of the table on standard input through the machine's public methods: those of document 01, and further ones for
-// each refusal and each plausible mistake. Prints a line for each: what came out beside what is expected.
+// Runs the scenarios of the table on standard input through the machine's public methods: those of document 01, and
+// further ones for each refusal and each plausible mistake. Prints a line for each: what came out beside what is
+// expected.
 mod acts;
 mod bench;
 mod changes;
 mod command;
+mod expected;
 mod lists;
+mod making;
 mod output;
 mod report;
 mod scenario;
+mod states;
 
 // The room for the table.
 const ROOM: usize = 65536;

@@ -16,16 +16,16 @@ impl Tally {
     }
 }
 
-pub fn print(text: &[u8]) {
+pub(crate) fn print(text: &[u8]) {
     io::write_all(STDOUT_FILENO, text);
 }
 
-pub fn number(n: u64) {
+pub(crate) fn number(n: u64) {
     io::print_decimal(STDOUT_FILENO, n);
 }
 
 // The first n numbers of a list, a blank before each.
-pub fn numbers(n: usize, list: &[u64]) {
+fn numbers(n: usize, list: &[u64]) {
     let mut i = 0;
     while i < n {
         if i < list.len() {
@@ -36,6 +36,14 @@ pub fn numbers(n: usize, list: &[u64]) {
     }
 }
 
+// The first n numbers that came out, and those expected.
+pub(crate) fn rows(label: &[u8], n: usize, got: &[u64], expected: &[u64]) {
+    print(label);
+    numbers(n, got);
+    print(b" =");
+    numbers(n, expected);
+}
+
 // A word's 16 hexadecimal digits, a blank before them.
 fn word(n: u64) {
     print(b" ");
@@ -43,21 +51,21 @@ fn word(n: u64) {
 }
 
 // The words of a slot.
-pub fn words(slot: [u64; 3]) {
+pub(crate) fn words(slot: [u64; 3]) {
     word(slot[0]);
     word(slot[1]);
     word(slot[2]);
 }
 
 // A number that came out, and the one expected.
-pub fn pair(label: &[u8], got: u64, expected: u64) {
+pub(crate) fn pair(label: &[u8], got: u64, expected: u64) {
     print(label);
     number(got);
     print(b" = ");
     number(expected);
 }
 
-pub fn total(tally: Tally) {
+pub(crate) fn total(tally: Tally) {
     print(b"\n");
     number(tally.ran);
     print(b" scenarios, ");

@@ -2,22 +2,19 @@
 use crate::bench::Bench;
 use crate::lists::same;
 use crate::output::number;
-use crate::output::numbers;
 use crate::output::pair;
 use crate::output::print;
+use crate::output::rows;
 use crate::output::words;
 
 // Whether the first n numbers of two rows are the same.
 fn agree(n: usize, got: [u64; 32], expected: [u64; 32]) -> bool {
-    same(n, &got, &expected)
+    same(0, n, &got, &expected)
 }
 
 // What came out in each step, and what is expected.
-fn rows(label: &[u8], n: usize, got: [u64; 32], expected: [u64; 32]) {
-    print(label);
-    numbers(n, &got);
-    print(b" =");
-    numbers(n, &expected);
+fn row(label: &[u8], n: usize, got: [u64; 32], expected: [u64; 32]) {
+    rows(label, n, &got, &expected);
 }
 
 // The words of a slot: slot s is words 1+3s, 2+3s and 3+3s.
@@ -53,7 +50,7 @@ impl Bench {
         let shown = self.shown;
         let got = slot_of(log, self.slots[place]);
         let expected = shown_of(shown, place);
-        same(3, &got, &expected)
+        same(0, 3, &got, &expected)
     }
 
     // Its line.
@@ -77,21 +74,61 @@ impl Bench {
         words(expected);
     }
 
-    // Everything is as expected.
-    pub(crate) fn is_right(self) -> bool {
+    // Each step's answer and stores are as expected.
+    fn steps_right(self) -> bool {
         let n = self.count;
         let answers = self.answers;
         let wanted = self.wanted;
         let stores = self.stores;
         let allowed = self.allowed;
-        let steps = agree(n, answers, wanted) & agree(n, stores, allowed);
-        let home = self.home[0] == self.ends[0];
-        let working = self.working[0] == self.ends[1];
-        let head = self.log[0] == self.ends[2];
-        let ends = (home & working) & (head & (self.given == 3));
+        agree(n, answers, wanted) & agree(n, stores, allowed)
+    }
+
+    // Every word of home and of working and the log's head are as expected.
+    fn ends_right(self) -> bool {
+        let home = self.home;
+        let working = self.working;
+        let home_end = self.home_end;
+        let working_end = self.working_end;
+        let words = home_end.matches(home) & working_end.matches(working);
+        words & (self.log[0] == self.head_end)
+    }
+
+    // The text was understood, and names what is expected at the end.
+    fn is_known(self) -> bool {
+        let words = (self.home_end.shown != 0) & (self.working_end.shown != 0);
+        self.known & (self.head_named & words)
+    }
+
+    // Everything is as expected.
+    pub(crate) fn is_right(self) -> bool {
+        let kept = self.kept & (self.kept_state & self.left_lost);
         let first = self.slot_right(0) & self.slot_right(1);
         let rest = self.slot_right(2) & self.slot_right(3);
-        (self.kept & self.known) & ((steps & ends) & (first & rest))
+        let ends = self.steps_right() & self.ends_right();
+        (kept & self.is_known()) & (ends & (first & rest))
+    }
+
+    // What is wrong and not shown by numbers.
+    pub(crate) fn warns(self) {
+        let home = self.home;
+        let working = self.working;
+        let home_end = self.home_end;
+        let working_end = self.working_end;
+        if !self.is_known() {
+            print(b" THE TEXT IS NOT UNDERSTOOD;");
+        }
+        if !self.kept {
+            print(b" A REFUSED STEP CHANGED A BUFFER;");
+        }
+        if !self.kept_state {
+            print(b" A REFUSED STEP CHANGED THE STATE;");
+        }
+        if !self.left_lost {
+            print(b" A CUT OR A REFUSED RECOVER LEFT MORE THAN THE LOST STATE;");
+        }
+        home_end.warns(b" ANOTHER WORD OF HOME IS NOT 0;", home);
+        working_end.warns(b" ANOTHER WORD OF WORKING IS NOT 0;", working);
     }
 
     // What came out, and what is expected.
@@ -101,17 +138,15 @@ impl Bench {
         let wanted = self.wanted;
         let stores = self.stores;
         let allowed = self.allowed;
-        if !self.known {
-            print(b" THE TEXT IS NOT UNDERSTOOD;");
-        }
-        if !self.kept {
-            print(b" A REFUSED STEP CHANGED A BUFFER;");
-        }
-        rows(b" answers", n, answers, wanted);
-        rows(b"; stores", n, stores, allowed);
-        pair(b"; home ", self.home[0], self.ends[0]);
-        pair(b"; working ", self.working[0], self.ends[1]);
-        pair(b"; head ", self.log[0], self.ends[2]);
+        let home = self.home;
+        let working = self.working;
+        let home_end = self.home_end;
+        let working_end = self.working_end;
+        row(b" answers", n, answers, wanted);
+        row(b"; stores", n, stores, allowed);
+        home_end.shows(b"; home", home);
+        working_end.shows(b"; working", working);
+        pair(b"; head ", self.log[0], self.head_end);
     }
 
     pub(crate) fn shows_slots(self) {

@@ -1,5 +1,5 @@
-// The table: a scenario a line, its name, a colon, its commands, a bar, and what is expected at the end. A line that begins with
-// a '#' is a remark.
+// The table: a scenario a line, its name, a colon, its commands, a bar, and what is expected at the end. A line that
+// begins with a '#' is a remark.
 ghost use Prim.Native.Nat.{_≤_};
 use crate::bench::Bench;
 use crate::bench::fresh;
@@ -111,6 +111,7 @@ fn show(line: &[u8], tally: Tally) -> Tally {
         print(b"ok    ");
     } else {
         print(b"WRONG ");
+        bench.warns();
     }
     bench.shows_steps();
     print(b"  |");
@@ -129,7 +130,7 @@ fn line_start(byte: u8, start: usize, next: usize) -> usize
 }
 
 // Every line.
-pub fn all(text: &[u8]) -> Tally {
+pub(crate) fn all(text: &[u8]) -> Tally {
     let mut tally = Tally { ran: 0, wrong: 0 };
     let mut start = 0;
     let mut i = 0;

@@ -6,10 +6,10 @@ use Rattle.scenarios.proofs.lists.same.Statement.{statement}
 use Rattle.scenarios.proofs.lists.same.Tie as tie
 
 abbrev Inv-loop : tie.InvT-loop
-Inv-loop n a b i₀ i = (n ≤ length a) × (n ≤ length b)
+Inv-loop start end a b i₀ i = (end ≤ length a) × (end ≤ length b)
 
 abbrev μ-loop : tie.MeasureT-loop
-μ-loop n a b i₀ i = n - i
+μ-loop start end a b i₀ i = end - i
 
 returns : tie.Need-returns Inv-loop μ-loop
 returns c = search needs

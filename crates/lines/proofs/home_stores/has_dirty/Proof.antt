@@ -41,9 +41,6 @@ loop-holds : tie.Need-loop-holds Inv-loop μ-loop
 unfolding listed any
 loop-holds c = (omega arith, refl)
 
-state-at-requires : tie.Need-state-at-requires Inv-loop μ-loop
-state-at-requires c κs = search needs
-
 add-word : tie.Need-add-word Inv-loop μ-loop
 add-word c = omega arith
 
@@ -71,4 +68,4 @@ returns c =
 pub has-dirty-spec : {M : Type 1} → statement M
 has-dirty-spec =
     tie.close
-    (tie.spec Inv-loop μ-loop loop-holds state-at-requires add-word loop-less loop-again returns)
+    (tie.spec Inv-loop μ-loop loop-holds (λ c κs. search needs) add-word loop-less loop-again returns)

@@ -45,9 +45,6 @@ mul-store c = omega arith
 shared-slice-read-store : tie.Need-shared-slice-read-store Inv-loop μ-loop
 shared-slice-read-store c = omega arith
 
-store-requires : tie.Need-store-requires Inv-loop μ-loop
-store-requires c κs = search needs
-
 add-j : tie.Need-add-j Inv-loop μ-loop
 add-j c = omega arith
 
@@ -89,7 +86,7 @@ store-line-spec =
     add-at
     mul-store
     shared-slice-read-store
-    store-requires
+    (λ c κs. search needs)
     add-j
     loop-less
     loop-again

@@ -10,27 +10,6 @@ use Rattle.parts.specs.States.{withState}
 use Rattle.lines.proofs.marking.mark.Statement.{statement}
 use Rattle.lines.proofs.marking.mark.Tie as tie
 
-cast-at : tie.Need-cast-at
-cast-at c = search needs
-
-mul-with-state : tie.Need-mul-with-state
-mul-with-state c = search needs
-
-element-copy-out-with-state : tie.Need-element-copy-out-with-state
-element-copy-out-with-state c = search needs
-
-cast-with-state : tie.Need-cast-with-state
-cast-with-state c = search needs
-
-with-state-requires : tie.Need-with-state-requires
-with-state-requires c κs = search needs
-
-mul-states : tie.Need-mul-states
-mul-states c = search needs
-
-element-write-states : tie.Need-element-write-states
-element-write-states c = search needs
-
 returns : tie.Need-returns
 returns c whole =
     let a = c .before .before .before .args in
@@ -46,12 +25,12 @@ pub mark-spec : {M : Type 1} → statement M
 mark-spec =
     tie.close
     (tie.spec
-    cast-at
-    mul-with-state
-    element-copy-out-with-state
-    cast-with-state
-    with-state-requires
-    mul-states
-    element-write-states
+    (λ c. search needs)
+    (λ c. search needs)
+    (λ c. search needs)
+    (λ c. search needs)
+    (λ c κs. search needs)
+    (λ c. search needs)
+    (λ c. search needs)
     returns
     returns-2)

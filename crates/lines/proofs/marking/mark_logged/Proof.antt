@@ -17,9 +17,6 @@ Inv-loop states₀ words count end i₀ states i = (i ≤ end) × (length states
 abbrev μ-loop : tie.MeasureT-loop
 μ-loop states₀ words count end i₀ states i = end - i
 
-least-requires : tie.Need-least-requires Inv-loop μ-loop
-least-requires c κs = search needs
-
 loop-holds : tie.Need-loop-holds Inv-loop μ-loop
 unfolding allMarked
 loop-holds c = (omega arith, λ whole places. refl)
@@ -29,9 +26,6 @@ mul-mark c = omega arith
 
 element-copy-out-mark : tie.Need-element-copy-out-mark Inv-loop μ-loop
 element-copy-out-mark c = omega arith
-
-mark-requires : tie.Need-mark-requires Inv-loop μ-loop
-mark-requires c κs = search needs
 
 add-i : tie.Need-add-i Inv-loop μ-loop
 add-i c = omega arith
@@ -62,11 +56,11 @@ mark-logged-spec =
     (tie.spec
     Inv-loop
     μ-loop
-    least-requires
+    (λ c κs. search needs)
     loop-holds
     mul-mark
     element-copy-out-mark
-    mark-requires
+    (λ c κs. search needs)
     add-i
     loop-less
     loop-again

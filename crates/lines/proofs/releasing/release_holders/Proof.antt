@@ -14,17 +14,11 @@ Inv-loop holders₀ n thread end i₀ holders i = (i ≤ end) × (holders ≡ re
 abbrev μ-loop : tie.MeasureT-loop
 μ-loop holders₀ n thread end i₀ holders i = end - i
 
-least-requires : tie.Need-least-requires Inv-loop μ-loop
-least-requires c κs = search needs
-
 loop-holds : tie.Need-loop-holds Inv-loop μ-loop
 loop-holds c = let a = c .before .args in (omega arith, replaced-none (freedHolder (a .thread)) (a .holders .now))
 
 element-copy-out-free-holder : tie.Need-element-copy-out-free-holder Inv-loop μ-loop
 element-copy-out-free-holder c = omega arith
-
-free-holder-requires : tie.Need-free-holder-requires Inv-loop μ-loop
-free-holder-requires c κs = search needs
 
 element-write-holders : tie.Need-element-write-holders Inv-loop μ-loop
 element-write-holders c = omega arith
@@ -55,10 +49,10 @@ release-holders-spec =
     (tie.spec
     Inv-loop
     μ-loop
-    least-requires
+    (λ c κs. search needs)
     loop-holds
     element-copy-out-free-holder
-    free-holder-requires
+    (λ c κs. search needs)
     element-write-holders
     add-i
     loop-less

@@ -14,9 +14,6 @@ Inv-loop states₀ holders n thread end i₀ states i = (i ≤ end) × (states �
 abbrev μ-loop : tie.MeasureT-loop
 μ-loop states₀ holders n thread end i₀ states i = end - i
 
-least-requires : tie.Need-least-requires Inv-loop μ-loop
-least-requires c κs = search needs
-
 loop-holds : tie.Need-loop-holds Inv-loop μ-loop
 loop-holds c = let a = c .before .args in (omega arith, replaced-none (freedStates (a .thread) (a .holders .now)) (a .states .now))
 
@@ -28,9 +25,6 @@ element-copy-out-free-states c = omega arith
 
 element-copy-out-free-states-2 : tie.Need-element-copy-out-free-states-2 Inv-loop μ-loop
 element-copy-out-free-states-2 c = omega arith
-
-free-states-requires : tie.Need-free-states-requires Inv-loop μ-loop
-free-states-requires c κs = search needs
 
 mul-states : tie.Need-mul-states Inv-loop μ-loop
 mul-states c = omega arith
@@ -64,12 +58,12 @@ release-states-spec =
     (tie.spec
     Inv-loop
     μ-loop
-    least-requires
+    (λ c κs. search needs)
     loop-holds
     mul-free-states
     element-copy-out-free-states
     element-copy-out-free-states-2
-    free-states-requires
+    (λ c κs. search needs)
     mul-states
     element-write-states
     add-i

@@ -6,9 +6,6 @@ use Rattle.lines.proofs.NewestWords.{newest-count, newest-other}
 use Rattle.lines.proofs.ulog_words.count_line.Statement.{statement}
 use Rattle.lines.proofs.ulog_words.count_line.Tie as tie
 
-count-ulog-requires : tie.Need-count-ulog-requires
-count-ulog-requires c κs = search needs
-
 returns : tie.Need-returns
 returns c =
     let a = c .before .before .args in
@@ -20,4 +17,4 @@ returns-2 c =
     λ i. ap length (sym (newest-other (a .thread) i (a .holder) (a .states) 8 (c .if1 .left)))
 
 pub count-line-spec : {M : Type 1} → statement M
-count-line-spec = tie.close (tie.spec count-ulog-requires returns returns-2)
+count-line-spec = tie.close (tie.spec (λ c κs. search needs) returns returns-2)

@@ -29,23 +29,14 @@ more ls n t i count r h e f =
     rw (e, f i) (sym (length-append (newestWords (firstLines n ls) t (8 * i)) line))
     ∙ ap length (sym (newest-line ls n t i h))
 
-least-requires : tie.Need-least-requires Inv-loop μ-loop
-least-requires c κs = search needs
-
 loop-holds : tie.Need-loop-holds Inv-loop μ-loop
 loop-holds c = let a = c .before .args in (omega arith, (c .least .ensures, λ dirty. ap length (sym (newest-nothing _ (a .thread)))))
 
 element-copy-out-count-line : tie.Need-element-copy-out-count-line Inv-loop μ-loop
 element-copy-out-count-line c = omega arith
 
-mul-count-line : tie.Need-mul-count-line Inv-loop μ-loop
-mul-count-line c = search needs
-
 element-copy-out-count-line-2 : tie.Need-element-copy-out-count-line-2 Inv-loop μ-loop
 element-copy-out-count-line-2 c = omega arith
-
-count-line-requires : tie.Need-count-line-requires Inv-loop μ-loop
-count-line-requires c κs = search needs
 
 -- the count after a line
 counted : (c : tie.After-count-line Inv-loop μ-loop) (dirty : List Bool)
@@ -87,12 +78,12 @@ count-newest-spec =
     (tie.spec
     Inv-loop
     μ-loop
-    least-requires
+    (λ c κs. search needs)
     loop-holds
     element-copy-out-count-line
-    mul-count-line
+    (λ c. search needs)
     element-copy-out-count-line-2
-    count-line-requires
+    (λ c κs. search needs)
     add-count
     add-i
     loop-less

@@ -25,9 +25,6 @@ loop-holds : tie.Need-loop-holds Inv-loop μ-loop
 unfolding listed keep
 loop-holds c = (omega arith, omega arith, refl)
 
-state-at-requires : tie.Need-state-at-requires Inv-loop μ-loop
-state-at-requires c κs = search needs
-
 add-count : tie.Need-add-count Inv-loop μ-loop
 add-count c = omega arith
 
@@ -65,7 +62,7 @@ count-ulog-spec =
     Inv-loop
     μ-loop
     loop-holds
-    state-at-requires
+    (λ c κs. search needs)
     add-count
     add-j
     loop-less

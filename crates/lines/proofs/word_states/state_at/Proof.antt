@@ -5,12 +5,6 @@ use borrow.Author.Needs.{needs}
 use Rattle.lines.proofs.word_states.state_at.Statement.{statement}
 use Rattle.lines.proofs.word_states.state_at.Tie as tie
 
-mul-result : tie.Need-mul-result
-mul-result c = search needs
-
-shr-result : tie.Need-shr-result
-shr-result c = search needs
-
 returns : tie.Need-returns
 returns c = state-shifted (c .before .args .states) (c .before .args .j)
 
@@ -18,4 +12,4 @@ returns-2 : tie.Need-returns-2
 returns-2 c = sym (state-past (c .before .args .states) (c .before .args .j) (c .before .fits .states .fits) (c .if1 .left))
 
 pub state-at-spec : {M : Type 1} → statement M
-state-at-spec = tie.close (tie.spec mul-result shr-result returns returns-2)
+state-at-spec = tie.close (tie.spec (λ c. search needs) (λ c. search needs) returns returns-2)

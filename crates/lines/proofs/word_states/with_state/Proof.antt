@@ -10,15 +10,6 @@ use borrow.Author.Needs.{needs}
 use Rattle.lines.proofs.word_states.with_state.Statement.{statement}
 use Rattle.lines.proofs.word_states.with_state.Tie as tie
 
-state-at-requires : tie.Need-state-at-requires
-state-at-requires c κs = search needs
-
-mul-others : tie.Need-mul-others
-mul-others c = search needs
-
-shl-others : tie.Need-shl-others
-shl-others c = search needs
-
 -- the sum is the line's new states, which fit 16 bits
 sum : (c : tie.After-state-at)
     → c .before .before .before .args .states - c .state-at .result * 2 ^ (2 * c .before .before .before .args .j) % 2 ^ 64
@@ -41,12 +32,6 @@ sub-others c =
     let a = c .before .before .before .args in
     state-shifted-le (a .states) (a .j) (c .state-at .result) (c .state-at .ensures) (c .before .before .if1 .taken)
 
-mul-result : tie.Need-mul-result
-mul-result c = search needs
-
-shl-result : tie.Need-shl-result
-shl-result c = search needs
-
 add-result : tie.Need-add-result
 add-result c = omega (arith, sum c, sum-fits c)
 
@@ -67,12 +52,12 @@ pub with-state-spec : {M : Type 1} → statement M
 with-state-spec =
     tie.close
     (tie.spec
-    state-at-requires
-    mul-others
-    shl-others
+    (λ c κs. search needs)
+    (λ c. search needs)
+    (λ c. search needs)
     sub-others
-    mul-result
-    shl-result
+    (λ c. search needs)
+    (λ c. search needs)
     add-result
     cast-result
     returns

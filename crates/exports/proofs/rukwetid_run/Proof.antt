@@ -6,27 +6,6 @@ use Rattle.exports.specs.Exported.{exportOf}
 use Rattle.exports.proofs.rukwetid_run.Statement.{statement}
 use Rattle.exports.proofs.rukwetid_run.Tie as tie
 
-lost-requires : tie.Need-lost-requires
-lost-requires c κs = search needs
-
-run-requires : tie.Need-run-requires
-run-requires c κs = search needs
-
-same-length : tie.Need-same-length
-same-length c = search needs
-
-same-length-2 : tie.Need-same-length-2
-same-length-2 c = search needs
-
-same-length-3 : tie.Need-same-length-3
-same-length-3 c = search needs
-
-same-length-4 : tie.Need-same-length-4
-same-length-4 c = search needs
-
-same-length-5 : tie.Need-same-length-5
-same-length-5 c = search needs
-
 returns : tie.Need-returns
 returns c =
     let d = c .before .before .before .before .before .before .before .before .before .before in
@@ -37,11 +16,11 @@ pub rukwetid-run-spec : {M : Type 1} → statement M
 rukwetid-run-spec =
     tie.close
     (tie.spec
-    lost-requires
-    run-requires
-    same-length
-    same-length-2
-    same-length-3
-    same-length-4
-    same-length-5
+    (λ c κs. search needs)
+    (λ c κs. search needs)
+    (λ c. search needs)
+    (λ c. search needs)
+    (λ c. search needs)
+    (λ c. search needs)
+    (λ c. search needs)
     returns)

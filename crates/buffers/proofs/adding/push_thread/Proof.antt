@@ -7,20 +7,11 @@ use Rattle.buffers.proofs.Refilled.{none-gone, then-pushed, none-pushed
 use Rattle.buffers.proofs.adding.push_thread.Statement.{statement}
 use Rattle.buffers.proofs.adding.push_thread.Tie as tie
 
-remove-threads-requires : tie.Need-remove-threads-requires
-remove-threads-requires c κs = search needs
-
-less-requires : tie.Need-less-requires
-less-requires c κs = search needs
-
 -- what the entries that are gone leave
 rest : (c : tie.Joined1) → let a = c .before .args in c .if1 .threads ≡ removed 0 (a .gone) (a .len) (a .threads .now)
 rest c =
     let a = c .before .args in
     ⊎-elim (λ u. u .3 ∙ u .2 .ensures) (λ u. none-gone (a .gone) (a .len) (a .threads .now) (c .if1 .threads) (u .0 .left) (u .1)) (c .if1 .came)
-
-element-write-threads : tie.Need-element-write-threads
-element-write-threads c = search needs
 
 returns : tie.Need-returns
 returns c whole =
@@ -36,4 +27,4 @@ returns-2 c whole =
     (c .if2 .left)
 
 pub push-thread-spec : {M : Type 1} → statement M
-push-thread-spec = tie.close (tie.spec remove-threads-requires less-requires element-write-threads returns returns-2)
+push-thread-spec = tie.close (tie.spec (λ c κs. search needs) (λ c κs. search needs) (λ c. search needs) returns returns-2)

@@ -7,23 +7,11 @@ use Rattle.buffers.proofs.Refilled.{none-gone, then-pushed, none-pushed
 use Rattle.buffers.proofs.adding.push_value.Statement.{statement}
 use Rattle.buffers.proofs.adding.push_value.Tie as tie
 
-remove-values-requires : tie.Need-remove-values-requires
-remove-values-requires c κs = search needs
-
-less-requires : tie.Need-less-requires
-less-requires c κs = search needs
-
 -- what the entries that are gone leave
 rest : (c : tie.Joined1) → let a = c .before .args in c .if1 .values ≡ removed 0 (a .gone) (a .len) (a .values .now)
 rest c =
     let a = c .before .args in
     ⊎-elim (λ u. u .3 ∙ u .2 .ensures) (λ u. none-gone (a .gone) (a .len) (a .values .now) (c .if1 .values) (u .0 .left) (u .1)) (c .if1 .came)
-
-mul-values : tie.Need-mul-values
-mul-values c = search needs
-
-element-write-values : tie.Need-element-write-values
-element-write-values c = search needs
 
 returns : tie.Need-returns
 returns c whole =
@@ -39,4 +27,4 @@ returns-2 c whole =
     (c .if2 .left)
 
 pub push-value-spec : {M : Type 1} → statement M
-push-value-spec = tie.close (tie.spec remove-values-requires less-requires mul-values element-write-values returns returns-2)
+push-value-spec = tie.close (tie.spec (λ c κs. search needs) (λ c κs. search needs) (λ c. search needs) (λ c. search needs) returns returns-2)

@@ -7,23 +7,11 @@ use Rattle.buffers.proofs.Refilled.{none-gone, then-pushed, none-pushed
 use Rattle.buffers.proofs.adding.push_word.Statement.{statement}
 use Rattle.buffers.proofs.adding.push_word.Tie as tie
 
-remove-words-requires : tie.Need-remove-words-requires
-remove-words-requires c κs = search needs
-
-less-requires : tie.Need-less-requires
-less-requires c κs = search needs
-
 -- what the entries that are gone leave
 rest : (c : tie.Joined1) → let a = c .before .args in c .if1 .words ≡ removed 0 (a .gone) (a .len) (a .words .now)
 rest c =
     let a = c .before .args in
     ⊎-elim (λ u. u .3 ∙ u .2 .ensures) (λ u. none-gone (a .gone) (a .len) (a .words .now) (c .if1 .words) (u .0 .left) (u .1)) (c .if1 .came)
-
-mul-words : tie.Need-mul-words
-mul-words c = search needs
-
-element-write-words : tie.Need-element-write-words
-element-write-words c = search needs
 
 returns : tie.Need-returns
 returns c whole =
@@ -39,4 +27,4 @@ returns-2 c whole =
     (c .if2 .left)
 
 pub push-word-spec : {M : Type 1} → statement M
-push-word-spec = tie.close (tie.spec remove-words-requires less-requires mul-words element-write-words returns returns-2)
+push-word-spec = tie.close (tie.spec (λ c κs. search needs) (λ c κs. search needs) (λ c. search needs) (λ c. search needs) returns returns-2)

@@ -52,20 +52,8 @@ add-second c = let k = known c in omega arith
 add-third : tie.Need-add-third
 add-third c = let k = known c in omega arith
 
-append-undos-requires : tie.Need-append-undos-requires
-append-undos-requires c κs = search needs
-
-append-redos-requires : tie.Need-append-redos-requires
-append-redos-requires c κs = search needs
-
 append-newest-requires : tie.Need-append-newest-requires
 append-newest-requires c κs = let k = known (c .before .before .before .before .before .before .before .before .before) in omega arith
-
-append-requires : tie.Need-append-requires
-append-requires c κs = search needs
-
-same-length : tie.Need-same-length
-same-length c = search needs
 
 returns-2 : tie.Need-returns-2
 returns-2 c dirty =
@@ -89,9 +77,9 @@ append-commit-spec =
     returns
     add-second
     add-third
-    append-undos-requires
-    append-redos-requires
+    (λ c κs. search needs)
+    (λ c κs. search needs)
     append-newest-requires
-    append-requires
-    same-length
+    (λ c κs. search needs)
+    (λ c. search needs)
     returns-2)

@@ -56,24 +56,6 @@ loop-holds c =
       ),
     )
 
-state-at-requires : tie.Need-state-at-requires Inv-loop μ-loop
-state-at-requires c κs = search needs
-
-mul-append-word : tie.Need-mul-append-word Inv-loop μ-loop
-mul-append-word c = omega arith
-
-add-append-word : tie.Need-add-append-word Inv-loop μ-loop
-add-append-word c = omega arith
-
-append-word-requires : tie.Need-append-word-requires Inv-loop μ-loop
-append-word-requires c κs = search needs
-
-add-j : tie.Need-add-j Inv-loop μ-loop
-add-j c = omega arith
-
-loop-less : tie.Need-loop-less Inv-loop μ-loop
-loop-less c = omega arith
-
 loop-again : tie.Need-loop-again Inv-loop μ-loop
 loop-again c =
     let l = c .before .before .before .before .before .before .loop in
@@ -106,12 +88,12 @@ append-line-spec =
     μ-loop
     returns
     loop-holds
-    state-at-requires
-    mul-append-word
-    add-append-word
-    append-word-requires
-    add-j
-    loop-less
+    (λ c κs. search needs)
+    (λ c. omega arith)
+    (λ c. omega arith)
+    (λ c κs. search needs)
+    (λ c. omega arith)
+    (λ c. omega arith)
     loop-again
     same-length
     returns-2)

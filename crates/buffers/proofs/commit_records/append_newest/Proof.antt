@@ -39,15 +39,6 @@ loop-holds c =
     let a = c .before .before .args in
     (omega arith, λ dirty. rw newest-nothing (progressed-none (a .at .left) (a .log .now) (a .at .number)))
 
-element-copy-out-append-line : tie.Need-element-copy-out-append-line Inv-loop μ-loop
-element-copy-out-append-line c = omega arith
-
-mul-append-line : tie.Need-mul-append-line Inv-loop μ-loop
-mul-append-line c = search needs
-
-element-copy-out-append-line-2 : tie.Need-element-copy-out-append-line-2 Inv-loop μ-loop
-element-copy-out-append-line-2 c = omega arith
-
 append-line-requires : tie.Need-append-line-requires Inv-loop μ-loop
 append-line-requires c κs =
     let l = c .before .before .before .before .loop in
@@ -56,12 +47,6 @@ append-line-requires c κs =
     let few : length (redosOf (a .working .now) (a .thread) (newestWords lines (a .thread) (8 * l .i))) ≤ 8 * l .i =
     rw length-map (newest-few lines (a .thread) (8 * l .i)) in
     (omega arith, (omega arith, omega (arith, l .inv .1 [] .number)))
-
-add-i : tie.Need-add-i Inv-loop μ-loop
-add-i c = omega arith
-
-loop-less : tie.Need-loop-less Inv-loop μ-loop
-loop-less c = omega arith
 
 loop-again : tie.Need-loop-again Inv-loop μ-loop
 loop-again c =
@@ -87,12 +72,12 @@ append-newest-spec =
     Inv-loop
     μ-loop
     loop-holds
-    element-copy-out-append-line
-    mul-append-line
-    element-copy-out-append-line-2
+    (λ c. omega arith)
+    (λ c. search needs)
+    (λ c. omega arith)
     append-line-requires
-    add-i
-    loop-less
+    (λ c. omega arith)
+    (λ c. omega arith)
     loop-again
     same-length
     returns)

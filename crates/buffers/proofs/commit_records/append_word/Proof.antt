@@ -26,24 +26,6 @@ one : (working before after : List ℕ) (t w s n c rest : ℕ) → s ≡ ULog
 one working before after t w s n c rest e left log =
     rw (eq-eqb s ULog e) (progressed-one (Redo t w (getD working w 0)) left log)
 
-cast-t11 : tie.Need-cast-t11
-cast-t11 c = search needs
-
-mul-t12 : tie.Need-mul-t12
-mul-t12 c = search needs
-
-shared-slice-read-t14 : tie.Need-shared-slice-read-t14
-shared-slice-read-t14 c = search needs
-
-append-requires : tie.Need-append-requires
-append-requires c κs = search needs
-
-add-t14 : tie.Need-add-t14
-add-t14 c = search needs
-
-same-length : tie.Need-same-length
-same-length c = search needs
-
 returns : tie.Need-returns
 returns c =
     let r = c .before .before .before .append in
@@ -60,11 +42,11 @@ pub append-word-spec : {M : Type 1} → statement M
 append-word-spec =
     tie.close
     (tie.spec
-    cast-t11
-    mul-t12
-    shared-slice-read-t14
-    append-requires
-    add-t14
-    same-length
+    (λ c. search needs)
+    (λ c. search needs)
+    (λ c. search needs)
+    (λ c κs. search needs)
+    (λ c. search needs)
+    (λ c. search needs)
     returns
     returns-2)

@@ -5,9 +5,6 @@ use Rattle.parts.specs.States.{ULog}
 use Rattle.buffers.proofs.filling.adds.Statement.{statement}
 use Rattle.buffers.proofs.filling.adds.Tie as tie
 
-state-at-requires : tie.Need-state-at-requires
-state-at-requires c κs = search needs
-
 returns : tie.Need-returns
 returns c = rw (← c .before .state-at .ensures, c .match .keys1)
 
@@ -15,4 +12,4 @@ returns-2 : tie.Need-returns-2
 returns-2 c = rw (← c .before .state-at .ensures, ne-eqb (c .before .state-at .result) ULog (c .match .rest .1))
 
 pub adds-spec : {M : Type 1} → statement M
-adds-spec = tie.close (tie.spec state-at-requires returns returns-2)
+adds-spec = tie.close (tie.spec (λ c κs. search needs) returns returns-2)

@@ -18,16 +18,10 @@ Inv-loop threads₀ from states holder at₀ j₀ threads at j =
 abbrev μ-loop : tie.MeasureT-loop
 μ-loop threads₀ from states holder at₀ j₀ threads at j = 8 - j
 
-least-requires : tie.Need-least-requires Inv-loop μ-loop
-least-requires c κs = search needs
-
 loop-holds : tie.Need-loop-holds Inv-loop μ-loop
 loop-holds c =
     let a = c .before .args in
     (omega arith, λ whole. rw (c .least .ensures) (placing-none (λ _. a .holder) (a .states) (a .from) (a .threads .now) whole))
-
-adds-requires : tie.Need-adds-requires Inv-loop μ-loop
-adds-requires c κs = search needs
 
 -- there is a place where one is put
 place : (c : tie.Then1 Inv-loop μ-loop) → c .before .before .before .loop .at < 32
@@ -41,12 +35,6 @@ element-write-threads c = place c
 
 add-at : tie.Need-add-at Inv-loop μ-loop
 add-at c = let h = place c in omega arith
-
-add-j : tie.Need-add-j Inv-loop μ-loop
-add-j c = omega arith
-
-loop-less : tie.Need-loop-less Inv-loop μ-loop
-loop-less c = omega arith
 
 loop-again : tie.Need-loop-again Inv-loop μ-loop
 loop-again c =
@@ -78,12 +66,12 @@ put-threads-spec =
     (tie.spec
     Inv-loop
     μ-loop
-    least-requires
+    (λ c κs. search needs)
     loop-holds
-    adds-requires
+    (λ c κs. search needs)
     element-write-threads
     add-at
-    add-j
-    loop-less
+    (λ c. omega arith)
+    (λ c. omega arith)
     loop-again
     returns)

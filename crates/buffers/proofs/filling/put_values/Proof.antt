@@ -19,16 +19,10 @@ Inv-loop values₀ from states working line at₀ j₀ values at j =
 abbrev μ-loop : tie.MeasureT-loop
 μ-loop values₀ from states working line at₀ j₀ values at j = 8 - j
 
-least-requires : tie.Need-least-requires Inv-loop μ-loop
-least-requires c κs = search needs
-
 loop-holds : tie.Need-loop-holds Inv-loop μ-loop
 loop-holds c =
     let a = c .before .before .args in
     (omega arith, λ whole. rw (c .least .ensures) (placing-none (valuesIn (a .working .now) (a .line)) (a .states) (a .from) (a .values .now) whole))
-
-adds-requires : tie.Need-adds-requires Inv-loop μ-loop
-adds-requires c κs = search needs
 
 -- there is a place where one is put
 place : (c : tie.Then1 Inv-loop μ-loop) → c .before .before .before .loop .at < 32
@@ -36,18 +30,6 @@ place c =
     let l = c .before .before .before .loop in
     let a = c .before .before .before .before .before .before .args in
     has-place (eqb (stateAt (a .states) (l .j)) ULog) (l .at) (sym (c .before .adds .ensures) ∙ c .if1 .taken)
-
-mul-values : tie.Need-mul-values Inv-loop μ-loop
-mul-values c = omega arith
-
-add-values : tie.Need-add-values Inv-loop μ-loop
-add-values c = omega arith
-
-mul-values-2 : tie.Need-mul-values-2 Inv-loop μ-loop
-mul-values-2 c = omega arith
-
-shared-slice-read-values : tie.Need-shared-slice-read-values Inv-loop μ-loop
-shared-slice-read-values c = omega arith
 
 mul-values-3 : tie.Need-mul-values-3 Inv-loop μ-loop
 mul-values-3 c = let h = place (c .before) in omega arith
@@ -57,12 +39,6 @@ element-write-values c = place (c .before)
 
 add-at : tie.Need-add-at Inv-loop μ-loop
 add-at c = let h = place (c .before) in omega arith
-
-add-j : tie.Need-add-j Inv-loop μ-loop
-add-j c = omega arith
-
-loop-less : tie.Need-loop-less Inv-loop μ-loop
-loop-less c = omega arith
 
 loop-again : tie.Need-loop-again Inv-loop μ-loop
 loop-again c =
@@ -94,17 +70,17 @@ put-values-spec =
     (tie.spec
     Inv-loop
     μ-loop
-    least-requires
+    (λ c κs. search needs)
     loop-holds
-    adds-requires
-    mul-values
-    add-values
-    mul-values-2
-    shared-slice-read-values
+    (λ c κs. search needs)
+    (λ c. omega arith)
+    (λ c. omega arith)
+    (λ c. omega arith)
+    (λ c. omega arith)
     mul-values-3
     element-write-values
     add-at
-    add-j
-    loop-less
+    (λ c. omega arith)
+    (λ c. omega arith)
     loop-again
     returns)

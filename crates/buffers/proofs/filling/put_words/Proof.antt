@@ -19,16 +19,10 @@ Inv-loop words₀ from states line at₀ j₀ words at j =
 abbrev μ-loop : tie.MeasureT-loop
 μ-loop words₀ from states line at₀ j₀ words at j = 8 - j
 
-least-requires : tie.Need-least-requires Inv-loop μ-loop
-least-requires c κs = search needs
-
 loop-holds : tie.Need-loop-holds Inv-loop μ-loop
 loop-holds c =
     let a = c .before .args in
     (omega arith, λ whole. rw (c .least .ensures) (placing-none (wordsIn (a .line)) (a .states) (a .from) (a .words .now) whole))
-
-adds-requires : tie.Need-adds-requires Inv-loop μ-loop
-adds-requires c κs = search needs
 
 -- there is a place where one is put
 place : (c : tie.Then1 Inv-loop μ-loop) → c .before .before .before .loop .at < 32
@@ -36,15 +30,6 @@ place c =
     let l = c .before .before .before .loop in
     let a = c .before .before .before .before .before .args in
     has-place (eqb (stateAt (a .states) (l .j)) ULog) (l .at) (sym (c .before .adds .ensures) ∙ c .if1 .taken)
-
-mul-words : tie.Need-mul-words Inv-loop μ-loop
-mul-words c = omega arith
-
-add-words : tie.Need-add-words Inv-loop μ-loop
-add-words c = omega arith
-
-cast-words : tie.Need-cast-words Inv-loop μ-loop
-cast-words c = omega arith
 
 mul-words-2 : tie.Need-mul-words-2 Inv-loop μ-loop
 mul-words-2 c = let h = place c in omega arith
@@ -54,12 +39,6 @@ element-write-words c = place c
 
 add-at : tie.Need-add-at Inv-loop μ-loop
 add-at c = let h = place c in omega arith
-
-add-j : tie.Need-add-j Inv-loop μ-loop
-add-j c = omega arith
-
-loop-less : tie.Need-loop-less Inv-loop μ-loop
-loop-less c = omega arith
 
 loop-again : tie.Need-loop-again Inv-loop μ-loop
 loop-again c =
@@ -91,16 +70,16 @@ put-words-spec =
     (tie.spec
     Inv-loop
     μ-loop
-    least-requires
+    (λ c κs. search needs)
     loop-holds
-    adds-requires
-    mul-words
-    add-words
-    cast-words
+    (λ c κs. search needs)
+    (λ c. omega arith)
+    (λ c. omega arith)
+    (λ c. omega arith)
     mul-words-2
     element-write-words
     add-at
-    add-j
-    loop-less
+    (λ c. omega arith)
+    (λ c. omega arith)
     loop-again
     returns)

@@ -35,12 +35,6 @@ refilled-so c =
 put-values-requires : tie.Need-put-values-requires
 put-values-requires c κs = let h = c .before .before .before .if1 .left in omega arith
 
-remove-values-requires : tie.Need-remove-values-requires
-remove-values-requires c κs = search needs
-
-less-requires : tie.Need-less-requires
-less-requires c κs = search needs
-
 returns : tie.Need-returns
 returns c whole = let a = c .before .before .args in rw (le-ltb (a .line) (length (a .working .now) / 8) (c .if1 .taken))
 
@@ -51,4 +45,4 @@ returns-2 c whole =
     rw (lt-ltb (a .line) (length (a .working .now) / 8) (joined .before .if1 .left)) (refilled-so c whole)
 
 pub refill-redos-spec : {M : Type 1} → statement M
-refill-redos-spec = tie.close (tie.spec returns remove-values-requires less-requires put-values-requires returns-2)
+refill-redos-spec = tie.close (tie.spec returns (λ c κs. search needs) (λ c κs. search needs) put-values-requires returns-2)

@@ -28,17 +28,8 @@ refilled-so c =
     then-put (λ _. a .holder) (a .len) (a .gone) (a .states) (c .before .less .result) (a .threads .now) (joined .if1 .threads) (c .put-threads .last .0)
     (c .before .less .ensures) (rest joined) (c .put-threads .ensures)
 
-put-threads-requires : tie.Need-put-threads-requires
-put-threads-requires c κs = search needs
-
-remove-threads-requires : tie.Need-remove-threads-requires
-remove-threads-requires c κs = search needs
-
-less-requires : tie.Need-less-requires
-less-requires c κs = search needs
-
 returns : tie.Need-returns
 returns c whole = refilled-so c whole
 
 pub refill-threads-spec : {M : Type 1} → statement M
-refill-threads-spec = tie.close (tie.spec remove-threads-requires less-requires put-threads-requires returns)
+refill-threads-spec = tie.close (tie.spec (λ c κs. search needs) (λ c κs. search needs) (λ c κs. search needs) returns)

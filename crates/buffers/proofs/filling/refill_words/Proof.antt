@@ -29,15 +29,6 @@ refilled-so c =
     then-put (wordsIn (a .line)) (a .len) (a .gone) (a .states) (c .before .less .result) (a .words .now) (joined .if2 .words) (c .put-words .last .0)
     (c .before .less .ensures) (rest joined) (c .put-words .ensures)
 
-put-words-requires : tie.Need-put-words-requires
-put-words-requires c κs = search needs
-
-remove-words-requires : tie.Need-remove-words-requires
-remove-words-requires c κs = search needs
-
-less-requires : tie.Need-less-requires
-less-requires c κs = search needs
-
 returns : tie.Need-returns
 returns c whole = let a = c .before .args in rw (le-ltb (a .line) 64 (c .if1 .taken))
 
@@ -48,4 +39,4 @@ returns-2 c whole =
     rw (lt-ltb (a .line) 64 (joined .before .if1 .left)) (refilled-so c whole)
 
 pub refill-words-spec : {M : Type 1} → statement M
-refill-words-spec = tie.close (tie.spec returns remove-words-requires less-requires put-words-requires returns-2)
+refill-words-spec = tie.close (tie.spec returns (λ c κs. search needs) (λ c κs. search needs) (λ c κs. search needs) returns-2)

@@ -28,42 +28,12 @@ returns c =
     let a = s .args in
     passed-none redoRecord 32 (a .count) (a .len) (entry s) (a .supply) (a .log .now) (a .number) (c .if1 .taken)
 
-least-requires : tie.Need-least-requires Inv-loop μ-loop
-least-requires c κs = search needs
-
 loop-holds : tie.Need-loop-holds Inv-loop μ-loop
 loop-holds c =
     let s = c .before .before .before in
     let a = s .args in
     passed-start redoRecord 32 (a .count) (a .len) (entry s) (a .supply) (a .log .now) (a .number) (c .least .result) (c .before .if1 .left)
     (c .least .ensures)
-
-element-copy-out-t19 : tie.Need-element-copy-out-t19 Inv-loop μ-loop
-element-copy-out-t19 c = omega arith
-
-mul-t20 : tie.Need-mul-t20 Inv-loop μ-loop
-mul-t20 c = omega arith
-
-element-copy-out-t23 : tie.Need-element-copy-out-t23 Inv-loop μ-loop
-element-copy-out-t23 c = omega arith
-
-mul-append : tie.Need-mul-append Inv-loop μ-loop
-mul-append c = omega arith
-
-element-copy-out-append : tie.Need-element-copy-out-append Inv-loop μ-loop
-element-copy-out-append c = omega arith
-
-add-append : tie.Need-add-append Inv-loop μ-loop
-add-append c = omega arith
-
-append-requires : tie.Need-append-requires Inv-loop μ-loop
-append-requires c κs = search needs
-
-add-i : tie.Need-add-i Inv-loop μ-loop
-add-i c = omega arith
-
-loop-less : tie.Need-loop-less Inv-loop μ-loop
-loop-less c = omega arith
 
 loop-again : tie.Need-loop-again Inv-loop μ-loop
 loop-again c =
@@ -90,17 +60,17 @@ append-redos-spec =
     Inv-loop
     μ-loop
     returns
-    least-requires
+    (λ c κs. search needs)
     loop-holds
-    element-copy-out-t19
-    mul-t20
-    element-copy-out-t23
-    mul-append
-    element-copy-out-append
-    add-append
-    append-requires
-    add-i
-    loop-less
+    (λ c. omega arith)
+    (λ c. omega arith)
+    (λ c. omega arith)
+    (λ c. omega arith)
+    (λ c. omega arith)
+    (λ c. omega arith)
+    (λ c κs. search needs)
+    (λ c. omega arith)
+    (λ c. omega arith)
     loop-again
     same-length
     returns-2)

@@ -27,48 +27,12 @@ returns c =
     let a = s .args in
     passed-none undoRedoRecord 16 (a .count) (a .len) (entry s) (a .supply) (a .log .now) (a .number) (c .if1 .taken)
 
-least-requires : tie.Need-least-requires Inv-loop μ-loop
-least-requires c κs = search needs
-
 loop-holds : tie.Need-loop-holds Inv-loop μ-loop
 loop-holds c =
     let s = c .before .before .before in
     let a = s .args in
     passed-start undoRedoRecord 16 (a .count) (a .len) (entry s) (a .supply) (a .log .now) (a .number) (c .least .result) (c .before .if1 .left)
     (c .least .ensures)
-
-element-copy-out-t20 : tie.Need-element-copy-out-t20 Inv-loop μ-loop
-element-copy-out-t20 c = omega arith
-
-mul-t21 : tie.Need-mul-t21 Inv-loop μ-loop
-mul-t21 c = omega arith
-
-element-copy-out-t24 : tie.Need-element-copy-out-t24 Inv-loop μ-loop
-element-copy-out-t24 c = omega arith
-
-mul-append : tie.Need-mul-append Inv-loop μ-loop
-mul-append c = omega arith
-
-element-copy-out-append : tie.Need-element-copy-out-append Inv-loop μ-loop
-element-copy-out-append c = omega arith
-
-mul-append-2 : tie.Need-mul-append-2 Inv-loop μ-loop
-mul-append-2 c = omega arith
-
-element-copy-out-append-2 : tie.Need-element-copy-out-append-2 Inv-loop μ-loop
-element-copy-out-append-2 c = omega arith
-
-add-append : tie.Need-add-append Inv-loop μ-loop
-add-append c = omega arith
-
-append-requires : tie.Need-append-requires Inv-loop μ-loop
-append-requires c κs = search needs
-
-add-i : tie.Need-add-i Inv-loop μ-loop
-add-i c = omega arith
-
-loop-less : tie.Need-loop-less Inv-loop μ-loop
-loop-less c = omega arith
 
 loop-again : tie.Need-loop-again Inv-loop μ-loop
 loop-again c =
@@ -95,19 +59,19 @@ append-undos-spec =
     Inv-loop
     μ-loop
     returns
-    least-requires
+    (λ c κs. search needs)
     loop-holds
-    element-copy-out-t20
-    mul-t21
-    element-copy-out-t24
-    mul-append
-    element-copy-out-append
-    mul-append-2
-    element-copy-out-append-2
-    add-append
-    append-requires
-    add-i
-    loop-less
+    (λ c. omega arith)
+    (λ c. omega arith)
+    (λ c. omega arith)
+    (λ c. omega arith)
+    (λ c. omega arith)
+    (λ c. omega arith)
+    (λ c. omega arith)
+    (λ c. omega arith)
+    (λ c κs. search needs)
+    (λ c. omega arith)
+    (λ c. omega arith)
     loop-again
     same-length
     returns-2)

@@ -16,37 +16,10 @@ Inv-loop xs₀ at gone len end i₀ xs i =
 abbrev μ-loop : tie.MeasureT-loop
 μ-loop xs₀ at gone len end i₀ xs i = end - i
 
-least-requires : tie.Need-least-requires Inv-loop μ-loop
-least-requires c κs = search needs
-
-less-requires : tie.Need-less-requires Inv-loop μ-loop
-less-requires c κs = search needs
-
 loop-holds : tie.Need-loop-holds Inv-loop μ-loop
 loop-holds c =
     let a = c .before .before .before .args in
     (omega arith, (omega arith, (refl, moved-none (a .at) (a .gone) (a .xs .now))))
-
-add-xs : tie.Need-add-xs Inv-loop μ-loop
-add-xs c = omega arith
-
-mul-xs : tie.Need-mul-xs Inv-loop μ-loop
-mul-xs c = omega arith
-
-slice-read-xs : tie.Need-slice-read-xs Inv-loop μ-loop
-slice-read-xs c = omega arith
-
-mul-xs-2 : tie.Need-mul-xs-2 Inv-loop μ-loop
-mul-xs-2 c = omega arith
-
-slice-write-xs : tie.Need-slice-write-xs Inv-loop μ-loop
-slice-write-xs c = omega arith
-
-add-i : tie.Need-add-i Inv-loop μ-loop
-add-i c = omega arith
-
-loop-less : tie.Need-loop-less Inv-loop μ-loop
-loop-less c = omega arith
 
 loop-again : tie.Need-loop-again Inv-loop μ-loop
 loop-again c =
@@ -54,9 +27,6 @@ loop-again c =
     let a = c .before .before .before .before .before .before .args in
     let e = l .inv .1 .1 .1 in
     (omega arith, (omega arith, (simp length-set (l .inv .1 .1 .0), rw e (moved-more (a .at) (a .gone) (l .i) (a .xs .now) (l .inv .0)))))
-
-same-length : tie.Need-same-length Inv-loop μ-loop
-same-length c = search needs
 
 returns : tie.Need-returns Inv-loop μ-loop
 returns c =
@@ -71,16 +41,16 @@ remove-u64-spec =
     (tie.spec
     Inv-loop
     μ-loop
-    least-requires
-    less-requires
+    (λ c κs. search needs)
+    (λ c κs. search needs)
     loop-holds
-    add-xs
-    mul-xs
-    slice-read-xs
-    mul-xs-2
-    slice-write-xs
-    add-i
-    loop-less
+    (λ c. omega arith)
+    (λ c. omega arith)
+    (λ c. omega arith)
+    (λ c. omega arith)
+    (λ c. omega arith)
+    (λ c. omega arith)
+    (λ c. omega arith)
     loop-again
-    same-length
+    (λ c. search needs)
     returns)

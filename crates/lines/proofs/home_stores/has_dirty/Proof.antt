@@ -41,12 +41,6 @@ loop-holds : tie.Need-loop-holds Inv-loop μ-loop
 unfolding listed any
 loop-holds c = (omega arith, refl)
 
-add-word : tie.Need-add-word Inv-loop μ-loop
-add-word c = omega arith
-
-loop-less : tie.Need-loop-less Inv-loop μ-loop
-loop-less c = omega arith
-
 loop-again : tie.Need-loop-again Inv-loop μ-loop
 loop-again c =
     let l = c .before .before .before .loop in
@@ -68,4 +62,4 @@ returns c =
 pub has-dirty-spec : {M : Type 1} → statement M
 has-dirty-spec =
     tie.close
-    (tie.spec Inv-loop μ-loop loop-holds (λ c κs. search needs) add-word loop-less loop-again returns)
+    (tie.spec Inv-loop μ-loop loop-holds (λ c κs. search needs) (λ c. omega arith) (λ c. omega arith) loop-again returns)

@@ -17,18 +17,6 @@ abbrev μ-loop : tie.MeasureT-loop
 loop-holds : tie.Need-loop-holds Inv-loop μ-loop
 loop-holds c = let a = c .before .args in (omega arith, replaced-none (freedHolder (a .thread)) (a .holders .now))
 
-element-copy-out-free-holder : tie.Need-element-copy-out-free-holder Inv-loop μ-loop
-element-copy-out-free-holder c = omega arith
-
-element-write-holders : tie.Need-element-write-holders Inv-loop μ-loop
-element-write-holders c = omega arith
-
-add-i : tie.Need-add-i Inv-loop μ-loop
-add-i c = omega arith
-
-loop-less : tie.Need-loop-less Inv-loop μ-loop
-loop-less c = omega arith
-
 loop-again : tie.Need-loop-again Inv-loop μ-loop
 loop-again c =
     let l = c .before .before .before .loop in
@@ -51,10 +39,10 @@ release-holders-spec =
     μ-loop
     (λ c κs. search needs)
     loop-holds
-    element-copy-out-free-holder
+    (λ c. omega arith)
     (λ c κs. search needs)
-    element-write-holders
-    add-i
-    loop-less
+    (λ c. omega arith)
+    (λ c. omega arith)
+    (λ c. omega arith)
     loop-again
     returns)

@@ -17,27 +17,6 @@ abbrev μ-loop : tie.MeasureT-loop
 loop-holds : tie.Need-loop-holds Inv-loop μ-loop
 loop-holds c = let a = c .before .args in (omega arith, replaced-none (freedStates (a .thread) (a .holders .now)) (a .states .now))
 
-mul-free-states : tie.Need-mul-free-states Inv-loop μ-loop
-mul-free-states c = omega arith
-
-element-copy-out-free-states : tie.Need-element-copy-out-free-states Inv-loop μ-loop
-element-copy-out-free-states c = omega arith
-
-element-copy-out-free-states-2 : tie.Need-element-copy-out-free-states-2 Inv-loop μ-loop
-element-copy-out-free-states-2 c = omega arith
-
-mul-states : tie.Need-mul-states Inv-loop μ-loop
-mul-states c = omega arith
-
-element-write-states : tie.Need-element-write-states Inv-loop μ-loop
-element-write-states c = omega arith
-
-add-i : tie.Need-add-i Inv-loop μ-loop
-add-i c = omega arith
-
-loop-less : tie.Need-loop-less Inv-loop μ-loop
-loop-less c = omega arith
-
 loop-again : tie.Need-loop-again Inv-loop μ-loop
 loop-again c =
     let l = c .before .before .before .before .loop in
@@ -60,13 +39,13 @@ release-states-spec =
     μ-loop
     (λ c κs. search needs)
     loop-holds
-    mul-free-states
-    element-copy-out-free-states
-    element-copy-out-free-states-2
+    (λ c. omega arith)
+    (λ c. omega arith)
+    (λ c. omega arith)
     (λ c κs. search needs)
-    mul-states
-    element-write-states
-    add-i
-    loop-less
+    (λ c. omega arith)
+    (λ c. omega arith)
+    (λ c. omega arith)
+    (λ c. omega arith)
     loop-again
     returns)

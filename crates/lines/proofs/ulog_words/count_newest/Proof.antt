@@ -32,12 +32,6 @@ more ls n t i count r h e f =
 loop-holds : tie.Need-loop-holds Inv-loop μ-loop
 loop-holds c = let a = c .before .args in (omega arith, (c .least .ensures, λ dirty. ap length (sym (newest-nothing _ (a .thread)))))
 
-element-copy-out-count-line : tie.Need-element-copy-out-count-line Inv-loop μ-loop
-element-copy-out-count-line c = omega arith
-
-element-copy-out-count-line-2 : tie.Need-element-copy-out-count-line-2 Inv-loop μ-loop
-element-copy-out-count-line-2 c = omega arith
-
 -- the count after a line
 counted : (c : tie.After-count-line Inv-loop μ-loop) (dirty : List Bool)
     → let l = c .before .before .before .before in
@@ -57,12 +51,6 @@ add-count c =
     let few = newest-few (firstLines (l .before .least .result) (linesOf (a .holders .now) [] (a .states .now))) (a .thread) (8 * (l .loop .i + 1)) in
     omega (arith, counted c [], few)
 
-add-i : tie.Need-add-i Inv-loop μ-loop
-add-i c = omega arith
-
-loop-less : tie.Need-loop-less Inv-loop μ-loop
-loop-less c = omega arith
-
 loop-again : tie.Need-loop-again Inv-loop μ-loop
 loop-again c = let l = c .before .before .before .before .loop in (omega arith, (l .inv .1 .0, counted c))
 
@@ -80,12 +68,12 @@ count-newest-spec =
     μ-loop
     (λ c κs. search needs)
     loop-holds
-    element-copy-out-count-line
+    (λ c. omega arith)
     (λ c. search needs)
-    element-copy-out-count-line-2
+    (λ c. omega arith)
     (λ c κs. search needs)
     add-count
-    add-i
-    loop-less
+    (λ c. omega arith)
+    (λ c. omega arith)
     loop-again
     returns)

@@ -25,15 +25,6 @@ loop-holds : tie.Need-loop-holds Inv-loop μ-loop
 unfolding listed keep
 loop-holds c = (omega arith, omega arith, refl)
 
-add-count : tie.Need-add-count Inv-loop μ-loop
-add-count c = omega arith
-
-add-j : tie.Need-add-j Inv-loop μ-loop
-add-j c = omega arith
-
-loop-less : tie.Need-loop-less Inv-loop μ-loop
-loop-less c = omega arith
-
 loop-again : tie.Need-loop-again Inv-loop μ-loop
 loop-again c =
     let states = c .before .before .before .before .args .states in
@@ -63,8 +54,8 @@ count-ulog-spec =
     μ-loop
     loop-holds
     (λ c κs. search needs)
-    add-count
-    add-j
-    loop-less
+    (λ c. omega arith)
+    (λ c. omega arith)
+    (λ c. omega arith)
     loop-again
     returns)

@@ -40,12 +40,6 @@ put-back : (c base : ℕ) (xs ys : List ℕ) (torn : ℕ) (r : Record) → ys �
     → putMid base (base + 3 - base) xs ys ≡ storedUnder c xs (shifted base (slotStores torn r))
 put-back c base xs ys torn r e = rw (e, add-sub-cancel-left base 3) (under-part c base 3 xs (slotStores torn r) (in-slot torn r))
 
-slots-requires : tie.Need-slots-requires
-slots-requires c κs = search needs
-
-same-length : tie.Need-same-length
-same-length c = search needs
-
 returns : tie.Need-returns
 returns c =
     let a = c .before .before .before .before .args in
@@ -74,20 +68,8 @@ add-end c = let s = size (c .before .before) in omega (arith, within c)
 mul-write : tie.Need-mul-write
 mul-write c = let s = size (c .before .before) in omega (arith, within c)
 
-sub-write : tie.Need-sub-write
-sub-write c = search needs
-
-part-write-start : tie.Need-part-write-start
-part-write-start c = search needs
-
 part-write-end : tie.Need-part-write-end
 part-write-end c = let s = size (c .before .before) in omega (arith, within c)
-
-write-requires : tie.Need-write-requires
-write-requires c κs = search needs
-
-same-length-2 : tie.Need-same-length-2
-same-length-2 c = search needs
 
 returns-2 : tie.Need-returns-2
 unfolding slotStores
@@ -109,16 +91,16 @@ pub append-spec : {M : Type 1} → statement M
 append-spec =
     tie.close
     (tie.spec
-    slots-requires
-    same-length
+    (λ c κs. search needs)
+    (λ c. search needs)
     returns
     torn-bit-requires
     place-requires
     add-end
     mul-write
-    sub-write
-    part-write-start
+    (λ c. search needs)
+    (λ c. search needs)
     part-write-end
-    write-requires
-    same-length-2
+    (λ c κs. search needs)
+    (λ c. search needs)
     returns-2)

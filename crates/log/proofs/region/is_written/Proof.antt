@@ -21,9 +21,6 @@ unfolding isWritten
 tested xs l n e =
     rw (← e, ← turned l n) (sym (and-assoc (ltb 0 l) (ltb n numbers) (eqb (tornIn (getD xs (placeOf l n + 2) 0)) (tornBit l n))))
 
-slots-requires : tie.Need-slots-requires
-slots-requires c κs = search needs
-
 returns : tie.Need-returns
 returns c =
     let a = c .before .before .before .args in
@@ -66,7 +63,7 @@ pub is-written-spec : {M : Type 1} → statement M
 is-written-spec =
     tie.close
     (tie.spec
-    slots-requires
+    (λ c κs. search needs)
     returns
     place-requires
     add-at

@@ -5,17 +5,11 @@ use borrow.Author.Needs.{needs}
 use Rattle.log.proofs.region.place.Statement.{statement}
 use Rattle.log.proofs.region.place.Tie as tie
 
-rem-result : tie.Need-rem-result
-rem-result c = search needs
-
 mul-result : tie.Need-mul-result
 mul-result c = omega (arith, mod-lt (c .args .number) (c .pre .0))
 
 add-result : tie.Need-add-result
 add-result c = omega (arith, mod-lt (c .args .number) (c .pre .0))
 
-returns : tie.Need-returns
-returns c = search needs
-
 pub place-spec : {M : Type 1} → statement M
-place-spec = tie.close (tie.spec rem-result mul-result add-result returns)
+place-spec = tie.close (tie.spec (λ c. search needs) mul-result add-result (λ c. search needs))

@@ -12,9 +12,6 @@ use Rattle.log.proofs.Numbers.{place-fits}
 use Rattle.log.proofs.region.read.Statement.{statement}
 use Rattle.log.proofs.region.read.Tie as tie
 
-slots-requires : tie.Need-slots-requires
-slots-requires c κs = search needs
-
 returns : tie.Need-returns
 unfolding readBack
 returns c = rw (← c .before .slots .ensures, c .if1 .taken)
@@ -38,17 +35,8 @@ add-end c = let s = size (c .before) in omega (arith, within c)
 mul-decode : tie.Need-mul-decode
 mul-decode c = let s = size (c .before) in omega (arith, within c)
 
-sub-decode : tie.Need-sub-decode
-sub-decode c = search needs
-
-part-decode-start : tie.Need-part-decode-start
-part-decode-start c = search needs
-
 part-decode-end : tie.Need-part-decode-end
 part-decode-end c = let s = size (c .before) in omega (arith, within c)
-
-decode-requires : tie.Need-decode-requires
-decode-requires c κs = search needs
 
 returns-2 : tie.Need-returns-2
 unfolding readBack
@@ -67,13 +55,13 @@ pub read-spec : {M : Type 1} → statement M
 read-spec =
     tie.close
     (tie.spec
-    slots-requires
+    (λ c κs. search needs)
     returns
     place-requires
     add-end
     mul-decode
-    sub-decode
-    part-decode-start
+    (λ c. search needs)
+    (λ c. search needs)
     part-decode-end
-    decode-requires
+    (λ c κs. search needs)
     returns-2)

@@ -15,23 +15,11 @@ none : (l n : ℕ) → l ≡ 0 → headStores l n ≡ []
 unfolding headStores
 none l n e = rw e
 
-slots-requires : tie.Need-slots-requires
-slots-requires c κs = search needs
-
-same-length : tie.Need-same-length
-same-length c = search needs
-
 returns : tie.Need-returns
 returns c =
     let a = c .before .before .before .before .args in
     let l = c .before .slots in
     rw (← l .ensures) (under-none (a .supply) (a .log .now) _ (none (l .result) (a .number) (c .if1 .taken)))
-
-store-requires : tie.Need-store-requires
-store-requires c κs = search needs
-
-same-length-2 : tie.Need-same-length-2
-same-length-2 c = search needs
 
 returns-2 : tie.Need-returns-2
 returns-2 c =
@@ -41,4 +29,4 @@ returns-2 c =
 
 pub set-head-spec : {M : Type 1} → statement M
 set-head-spec =
-    tie.close (tie.spec slots-requires same-length returns store-requires same-length-2 returns-2)
+    tie.close (tie.spec (λ c κs. search needs) (λ c. search needs) returns (λ c κs. search needs) (λ c. search needs) returns-2)

@@ -7,18 +7,6 @@ use Rattle.log.proofs.slot.decode.Tie as tie
 returns : tie.Need-returns
 returns c = rw (ne-eqb _ _ (c .if1 .taken))
 
-shared-slice-read-decode-words : tie.Need-shared-slice-read-decode-words
-shared-slice-read-decode-words c = search needs
-
-shared-slice-read-decode-words-2 : tie.Need-shared-slice-read-decode-words-2
-shared-slice-read-decode-words-2 c = search needs
-
-shared-slice-read-decode-words-3 : tie.Need-shared-slice-read-decode-words-3
-shared-slice-read-decode-words-3 c = search needs
-
-decode-words-requires : tie.Need-decode-words-requires
-decode-words-requires c κs = search needs
-
 returns-2 : tie.Need-returns-2
 returns-2 c = rw (eq-eqb _ _ (c .before .before .before .before .if1 .left)) (c .decode-words .ensures)
 
@@ -27,8 +15,8 @@ decode-spec =
     tie.close
     (tie.spec
     returns
-    shared-slice-read-decode-words
-    shared-slice-read-decode-words-2
-    shared-slice-read-decode-words-3
-    decode-words-requires
+    (λ c. search needs)
+    (λ c. search needs)
+    (λ c. search needs)
+    (λ c κs. search needs)
     returns-2)

@@ -32,15 +32,6 @@ returns-3 c =
     let rest : restIn (a .header) ≡ 0 → ⊥ = omega arith in
     rw (lt-ltb (threadIn (a .header)) 8 thread, lt-ltb (wordIn (a .header)) (a .words) word, ne-eqb (restIn (a .header)) 0 rest)
 
-cast-of-type : tie.Need-cast-of-type
-cast-of-type c = search needs
-
-cast-of-type-2 : tie.Need-cast-of-type-2
-cast-of-type-2 c = search needs
-
-of-type-requires : tie.Need-of-type-requires
-of-type-requires c κs = search needs
-
 returns-4 : tie.Need-returns-4
 unfolding decoded
 returns-4 c =
@@ -55,4 +46,4 @@ returns-4 c =
 pub decode-words-spec : {M : Type 1} → statement M
 decode-words-spec =
     tie.close
-    (tie.spec returns returns-2 returns-3 cast-of-type cast-of-type-2 of-type-requires returns-4)
+    (tie.spec returns returns-2 returns-3 (λ c. search needs) (λ c. search needs) (λ c κs. search needs) returns-4)

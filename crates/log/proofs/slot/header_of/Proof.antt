@@ -5,24 +5,6 @@ use Rattle.log.specs.Layout.{headerOf}
 use Rattle.log.proofs.slot.header_of.Statement.{statement}
 use Rattle.log.proofs.slot.header_of.Tie as tie
 
-enum-known-entry : tie.Need-enum-known-entry
-enum-known-entry c = search needs
-
-packed-requires : tie.Need-packed-requires
-packed-requires c κs = search needs
-
-enum-known-entry-2 : tie.Need-enum-known-entry-2
-enum-known-entry-2 c = search needs
-
-packed-requires-2 : tie.Need-packed-requires-2
-packed-requires-2 c κs = search needs
-
-enum-known-entry-3 : tie.Need-enum-known-entry-3
-enum-known-entry-3 c = search needs
-
-packed-requires-3 : tie.Need-packed-requires-3
-packed-requires-3 c κs = search needs
-
 returns : tie.Need-returns
 returns c = c .packed .ensures ∙ sym (ap (headerOf (c .before .before .before .before .args .torn)) (c .before .before .entry .given .1))
 
@@ -36,12 +18,12 @@ pub header-of-spec : {M : Type 1} → statement M
 header-of-spec =
     tie.close
     (tie.spec
-    enum-known-entry
-    packed-requires
-    enum-known-entry-2
-    packed-requires-2
-    enum-known-entry-3
-    packed-requires-3
+    (λ c. search needs)
+    (λ c κs. search needs)
+    (λ c. search needs)
+    (λ c κs. search needs)
+    (λ c. search needs)
+    (λ c κs. search needs)
     returns
     returns-2
     returns-3)

@@ -20,9 +20,6 @@ passed t r e = rw e
 failed : (t : Bool) (r : Record) → t ≡ false → Bad ≡ goodIf t r
 failed t r e = rw e
 
-returns : tie.Need-returns
-returns c = search needs
-
 returns-2 : tie.Need-returns-2
 returns-2 c = rw (c .match .keys2)
 
@@ -49,4 +46,4 @@ returns-6 c =
     rw e (failed (eqb (a .undo) 0 && (eqb (a .redo) 0 && eqb (a .word) 0)) (Commit (a .thread)) (c .if2 .left))
 
 pub of-type-spec : {M : Type 1} → statement M
-of-type-spec = tie.close (tie.spec returns returns-2 returns-3 returns-4 returns-5 returns-6)
+of-type-spec = tie.close (tie.spec (λ c. search needs) returns-2 returns-3 returns-4 returns-5 returns-6)

@@ -24,15 +24,6 @@ one (suc n) xs s h = sym (ap (stored (set xs (s .at) (s .value))) (take-nil n))
 returns : tie.Need-returns
 returns c = none _ _ _ (c .if1 .taken)
 
-mul-region : tie.Need-mul-region
-mul-region c = search needs
-
-slice-write-region : tie.Need-slice-write-region
-slice-write-region c = search needs
-
-sub-result : tie.Need-sub-result
-sub-result c = search needs
-
 same-length : tie.Need-same-length
 same-length c = ⊎-elim (λ w. ap length (w .1) ∙ simp length-set) (λ w. ap length (w .1)) (c .if2 .came)
 
@@ -44,4 +35,4 @@ returns-2 c =
 
 pub store-spec : {M : Type 1} → statement M
 store-spec =
-    tie.close (tie.spec returns mul-region slice-write-region sub-result same-length returns-2)
+    tie.close (tie.spec returns (λ c. search needs) (λ c. search needs) (λ c. search needs) same-length returns-2)

@@ -16,27 +16,6 @@ one-by-one : (c : ℕ) (xs : List ℕ) (s t u : Store)
 one-by-one c xs s t u =
     sym (under-append c xs (s ∷ []) (t ∷ u ∷ []) ∙ under-append (c - 1) (storedUnder c xs (s ∷ [])) (t ∷ []) (u ∷ []))
 
-undo-of-requires : tie.Need-undo-of-requires
-undo-of-requires c κs = search needs
-
-redo-of-requires : tie.Need-redo-of-requires
-redo-of-requires c κs = search needs
-
-header-of-requires : tie.Need-header-of-requires
-header-of-requires c κs = search needs
-
-store-requires : tie.Need-store-requires
-store-requires c κs = search needs
-
-store-requires-2 : tie.Need-store-requires-2
-store-requires-2 c κs = search needs
-
-store-requires-3 : tie.Need-store-requires-3
-store-requires-3 c κs = search needs
-
-same-length : tie.Need-same-length
-same-length c = search needs
-
 returns : tie.Need-returns
 unfolding slotStores
 returns c =
@@ -70,11 +49,11 @@ pub write-spec : {M : Type 1} → statement M
 write-spec =
     tie.close
     (tie.spec
-    undo-of-requires
-    redo-of-requires
-    header-of-requires
-    store-requires
-    store-requires-2
-    store-requires-3
-    same-length
+    (λ c κs. search needs)
+    (λ c κs. search needs)
+    (λ c κs. search needs)
+    (λ c κs. search needs)
+    (λ c κs. search needs)
+    (λ c κs. search needs)
+    (λ c. search needs)
     returns)

@@ -26,18 +26,6 @@ comes t self r home working log lent e back = (
   λ some. back .refused some (λ cut. begin-uncut t (view self) 0 lent (sym (ap (λ (o : Outcome). o .answer) e) ∙ cut)),
 )
 
-slice-aggregate-step : tie.Need-slice-aggregate-step
-slice-aggregate-step c = search needs
-
-slice-aggregate-step-2 : tie.Need-slice-aggregate-step-2
-slice-aggregate-step-2 c = search needs
-
-slice-aggregate-step-3 : tie.Need-slice-aggregate-step-3
-slice-aggregate-step-3 c = search needs
-
-step-requires : tie.Need-step-requires
-step-requires c κs = search needs
-
 returns : tie.Need-returns
 returns c =
     let made = c .before .before .before .before .step in
@@ -45,4 +33,4 @@ returns c =
     comes (start .args .thread) (start .args .self) (made .result) _ _ _ _ (made .ensures .0) (made .ensures .1)
 
 pub begin-spec : {M : Type 1} → statement M
-begin-spec = tie.close (tie.spec slice-aggregate-step slice-aggregate-step-2 slice-aggregate-step-3 step-requires returns)
+begin-spec = tie.close (tie.spec (λ c. search needs) (λ c. search needs) (λ c. search needs) (λ c κs. search needs) returns)

@@ -3,11 +3,8 @@ use borrow.Author.Needs.{needs}
 use Rattle.machine.proofs.State.lost.Statement.{statement}
 use Rattle.machine.proofs.State.lost.Tie as tie
 
-lost-requires : tie.Need-lost-requires
-lost-requires c κs = search needs
-
 returns : tie.Need-returns
 returns c = rw (c .lost .ensures)
 
 pub lost-spec : {M : Type 1} → statement M
-lost-spec = tie.close (tie.spec lost-requires returns)
+lost-spec = tie.close (tie.spec (λ c κs. search needs) returns)

@@ -7,21 +7,6 @@ use Rattle.machine.proofs.Around.{around}
 use Rattle.machine.proofs.State.recover.Statement.{statement}
 use Rattle.machine.proofs.State.recover.Tie as tie
 
-recover-requires : tie.Need-recover-requires
-recover-requires c κs = search needs
-
-answer-requires : tie.Need-answer-requires
-answer-requires c κs = search needs
-
-same-length : tie.Need-same-length
-same-length c = search needs
-
-same-length-2 : tie.Need-same-length-2
-same-length-2 c = search needs
-
-same-length-3 : tie.Need-same-length-3
-same-length-3 c = search needs
-
 returns : tie.Need-returns
 returns c =
     let made = c .before .before .before .before .before .before .before .recover in
@@ -31,4 +16,4 @@ returns c =
     )
 
 pub recover-spec : {M : Type 1} → statement M
-recover-spec = tie.close (tie.spec recover-requires answer-requires same-length same-length-2 same-length-3 returns)
+recover-spec = tie.close (tie.spec (λ c κs. search needs) (λ c κs. search needs) (λ c. search needs) (λ c. search needs) (λ c. search needs) returns)

@@ -8,14 +8,5 @@ use Rattle.random_lists.proofs.choosing.own.Tie as tie
 mul-turn : tie.Need-mul-turn
 mul-turn c = record { fits = lt-of-le-of-lt (mul-le-mul {n₂ = 65535} {m₂ = 65535} (search needs) (search needs)) (omega arith) }
 
-sum-requires : tie.Need-sum-requires
-sum-requires c κs = search needs
-
-rest-requires : tie.Need-rest-requires
-rest-requires c κs = search needs
-
-returns : tie.Need-returns
-returns c = search needs
-
 pub own-spec : {M : Type 1} → statement M
-own-spec = tie.close (tie.spec mul-turn sum-requires rest-requires returns)
+own-spec = tie.close (tie.spec mul-turn (λ c κs. search needs) (λ c κs. search needs) (λ c. search needs))

@@ -13,48 +13,18 @@ Inv-loop home₀ working₀ log₀ game₀ score₀ left₀ home working log gam
 abbrev μ-loop : tie.MeasureT-loop
 μ-loop home₀ working₀ log₀ game₀ score₀ left₀ home working log game score left = left
 
-loop-holds : tie.Need-loop-holds Inv-loop μ-loop
-loop-holds c = search needs
-
-sub-left : tie.Need-sub-left Inv-loop μ-loop
-sub-left c = search needs
-
-chosen-requires : tie.Need-chosen-requires Inv-loop μ-loop
-chosen-requires c κs = search needs
-
-lent-in-requires : tie.Need-lent-in-requires Inv-loop μ-loop
-lent-in-requires c κs = search needs
-
-array-borrow-prefix-home : tie.Need-array-borrow-prefix-home Inv-loop μ-loop
-array-borrow-prefix-home c = search needs
-
 slice-aggregate-stepped : tie.Need-slice-aggregate-stepped Inv-loop μ-loop
 slice-aggregate-stepped c = counted (c .before .lent-in .result .home) 512 (c .before .before .before .before .loop .home)
     (c .before .lent-in .ensures .0) (c .before .before .before .before .loop .inv .0)
-
-array-borrow-prefix-working : tie.Need-array-borrow-prefix-working Inv-loop μ-loop
-array-borrow-prefix-working c = search needs
 
 slice-aggregate-stepped-2 : tie.Need-slice-aggregate-stepped-2 Inv-loop μ-loop
 slice-aggregate-stepped-2 c = counted (c .before .before .lent-in .result .working) 512 (c .before .before .before .before .before .loop .working)
     (c .before .before .lent-in .ensures .1 .0) (c .before .before .before .before .before .loop .inv .1 .0)
 
-array-borrow-prefix-log : tie.Need-array-borrow-prefix-log Inv-loop μ-loop
-array-borrow-prefix-log c = search needs
-
 slice-aggregate-stepped-3 : tie.Need-slice-aggregate-stepped-3 Inv-loop μ-loop
 slice-aggregate-stepped-3 c = counted (c .before .before .before .lent-in .result .log) 3073
     (c .before .before .before .before .before .before .loop .log) (c .before .before .before .lent-in .ensures .1 .1)
     (c .before .before .before .before .before .before .loop .inv .1 .1)
-
-stepped-requires : tie.Need-stepped-requires Inv-loop μ-loop
-stepped-requires c κs = search needs
-
-folded-requires : tie.Need-folded-requires Inv-loop μ-loop
-folded-requires c κs = search needs
-
-counted-requires : tie.Need-counted-requires Inv-loop μ-loop
-counted-requires c κs = search needs
 
 loop-less : tie.Need-loop-less Inv-loop μ-loop
 loop-less c = omega (arith, c .before .before .before .before .before .before .before .before .before .before .before .before .before .before .loop-test .taken)
@@ -72,32 +42,26 @@ loop-again c =
       ),
     )
 
-fold-requires : tie.Need-fold-requires Inv-loop μ-loop
-fold-requires c κs = search needs
-
-returns : tie.Need-returns Inv-loop μ-loop
-returns c = search needs
-
 pub play-spec : {M : Type 1} → statement M
 play-spec =
     tie.close
     (tie.spec
     Inv-loop
     μ-loop
-    loop-holds
-    sub-left
-    chosen-requires
-    lent-in-requires
-    array-borrow-prefix-home
+    (λ c. search needs)
+    (λ c. search needs)
+    (λ c κs. search needs)
+    (λ c κs. search needs)
+    (λ c. search needs)
     slice-aggregate-stepped
-    array-borrow-prefix-working
+    (λ c. search needs)
     slice-aggregate-stepped-2
-    array-borrow-prefix-log
+    (λ c. search needs)
     slice-aggregate-stepped-3
-    stepped-requires
-    folded-requires
-    counted-requires
+    (λ c κs. search needs)
+    (λ c κs. search needs)
+    (λ c κs. search needs)
     loop-less
     loop-again
-    fold-requires
-    returns)
+    (λ c κs. search needs)
+    (λ c. search needs))

@@ -4,12 +4,6 @@ use borrow.Author.Needs.{needs}
 use Rattle.recovery.proofs.passes.make.Statement.{statement}
 use Rattle.recovery.proofs.passes.make.Tie as tie
 
-store-requires : tie.Need-store-requires
-store-requires c κs = search needs
-
-same-length : tie.Need-same-length
-same-length c = search needs
-
 returns : tie.Need-returns
 returns c =
     let a = c .before .before .before .before .before .before .args in
@@ -22,4 +16,4 @@ returns-2 c =
     make-none (a .write) (a .supply) (a .home .now) (c .if1 .left)
 
 pub make-spec : {M : Type 1} → statement M
-make-spec = tie.close (tie.spec store-requires same-length returns returns-2)
+make-spec = tie.close (tie.spec (λ c κs. search needs) (λ c. search needs) returns returns-2)

@@ -7,15 +7,6 @@ use borrow.Author.Needs.{needs}
 use Rattle.recovery.proofs.passes.redo_at.Statement.{statement}
 use Rattle.recovery.proofs.passes.redo_at.Tie as tie
 
-read-requires : tie.Need-read-requires
-read-requires c κs = search needs
-
-enum-known-reading : tie.Need-enum-known-reading
-enum-known-reading c = search needs
-
-enum-known-entry : tie.Need-enum-known-entry
-enum-known-entry c = search needs
-
 is-closed-requires : tie.Need-is-closed-requires
 is-closed-requires c κs =
     let a = c .before .before .before .before .before .before .before .before .args in
@@ -24,12 +15,6 @@ is-closed-requires c κs =
     (c .before .before .before .before .reading .given .1)
     (c .before .entry .given .1) in
     v .thread
-
-cast-t16 : tie.Need-cast-t16
-cast-t16 c = search needs
-
-enum-known-entry-2 : tie.Need-enum-known-entry-2
-enum-known-entry-2 c = search needs
 
 is-closed-requires-2 : tie.Need-is-closed-requires-2
 is-closed-requires-2 c κs =
@@ -40,14 +25,8 @@ is-closed-requires-2 c κs =
     (c .before .entry2 .given .1) in
     v .thread
 
-cast-t18 : tie.Need-cast-t18
-cast-t18 c = search needs
-
 enum-told : tie.Need-enum-told
 enum-told c = search needs
-
-enum-told-2 : tie.Need-enum-told-2
-enum-told-2 c = search needs
 
 returns : tie.Need-returns
 returns c =
@@ -84,16 +63,16 @@ pub redo-at-spec : {M : Type 1} → statement M
 redo-at-spec =
     tie.close
     (tie.spec
-    read-requires
-    enum-known-reading
-    enum-known-entry
+    (λ c κs. search needs)
+    (λ c. search needs)
+    (λ c. search needs)
     is-closed-requires
-    cast-t16
-    enum-known-entry-2
+    (λ c. search needs)
+    (λ c. search needs)
     is-closed-requires-2
-    cast-t18
+    (λ c. search needs)
     enum-told
-    enum-told-2
+    (λ c. search needs)
     returns
     returns-2
     returns-3

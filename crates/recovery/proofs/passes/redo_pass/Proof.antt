@@ -17,18 +17,6 @@ loop-holds c =
     let a = c .before .before .args in
     redoing-start (a .words) (a .log .now) (a .head) (a .tail) (a .supply) (a .home .now)
 
-redo-at-requires : tie.Need-redo-at-requires Inv-loop μ-loop
-redo-at-requires c κs = search needs
-
-make-requires : tie.Need-make-requires Inv-loop μ-loop
-make-requires c κs = search needs
-
-add-number : tie.Need-add-number Inv-loop μ-loop
-add-number c = omega arith
-
-loop-less : tie.Need-loop-less Inv-loop μ-loop
-loop-less c = omega arith
-
 loop-again : tie.Need-loop-again Inv-loop μ-loop
 loop-again c =
     let turn = c .before .before .before .before .before in
@@ -62,10 +50,10 @@ redo-pass-spec =
     Inv-loop
     μ-loop
     loop-holds
-    redo-at-requires
-    make-requires
-    add-number
-    loop-less
+    (λ c κs. search needs)
+    (λ c κs. search needs)
+    (λ c. omega arith)
+    (λ c. omega arith)
     loop-again
     same-length
     returns)

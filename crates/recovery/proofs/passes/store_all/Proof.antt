@@ -4,9 +4,6 @@ use borrow.Author.Needs.{needs}
 use Rattle.recovery.proofs.passes.store_all.Statement.{statement}
 use Rattle.recovery.proofs.passes.store_all.Tie as tie
 
-head-requires : tie.Need-head-requires
-head-requires c κs = search needs
-
 redo-pass-requires : tie.Need-redo-pass-requires
 redo-pass-requires c κs =
     let start = c .before .before .before .before .before .before in
@@ -22,9 +19,6 @@ undo-pass-requires c κs =
       lasts-found (a .words) (a .log .now) (a .found) (start .pre) _ (read .head .ensures),
     )
 
-same-length : tie.Need-same-length
-same-length c = search needs
-
 returns : tie.Need-returns
 returns c =
     let read = c .before .before .before .before .before .before .before .before .before .before .before in
@@ -37,4 +31,4 @@ returns c =
 
 pub store-all-spec : {M : Type 1} → statement M
 store-all-spec =
-    tie.close (tie.spec head-requires redo-pass-requires undo-pass-requires same-length returns)
+    tie.close (tie.spec (λ c κs. search needs) redo-pass-requires undo-pass-requires (λ c. search needs) returns)

@@ -8,15 +8,6 @@ use borrow.Author.Needs.{needs}
 use Rattle.recovery.proofs.passes.undo_at.Statement.{statement}
 use Rattle.recovery.proofs.passes.undo_at.Tie as tie
 
-read-requires : tie.Need-read-requires
-read-requires c κs = search needs
-
-enum-known-reading : tie.Need-enum-known-reading
-enum-known-reading c = search needs
-
-enum-known-entry : tie.Need-enum-known-entry
-enum-known-entry c = search needs
-
 is-closed-requires : tie.Need-is-closed-requires
 is-closed-requires c κs =
     let a = c .before .before .before .before .before .before .before .before .args in
@@ -26,17 +17,8 @@ is-closed-requires c κs =
     (c .before .entry .given .1) in
     v .thread
 
-cast-t14 : tie.Need-cast-t14
-cast-t14 c = search needs
-
 enum-told : tie.Need-enum-told
 enum-told c = search needs
-
-enum-told-2 : tie.Need-enum-told-2
-enum-told-2 c = search needs
-
-enum-told-3 : tie.Need-enum-told-3
-enum-told-3 c = search needs
 
 returns : tie.Need-returns
 returns c =
@@ -73,14 +55,14 @@ pub undo-at-spec : {M : Type 1} → statement M
 undo-at-spec =
     tie.close
     (tie.spec
-    read-requires
-    enum-known-reading
-    enum-known-entry
+    (λ c κs. search needs)
+    (λ c. search needs)
+    (λ c. search needs)
     is-closed-requires
-    cast-t14
+    (λ c. search needs)
     enum-told
-    enum-told-2
-    enum-told-3
+    (λ c. search needs)
+    (λ c. search needs)
     returns
     returns-2
     returns-3

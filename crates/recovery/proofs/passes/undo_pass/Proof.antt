@@ -12,31 +12,10 @@ Inv-loop home₀ log words head tail last supply count left₀ turn₀ home left
 abbrev μ-loop : tie.MeasureT-loop
 μ-loop home₀ log words head tail last supply count left₀ turn₀ home left turn = count - turn
 
-sub-count : tie.Need-sub-count Inv-loop μ-loop
-sub-count c = search needs
-
 loop-holds : tie.Need-loop-holds Inv-loop μ-loop
 loop-holds c =
     let a = c .before .before .args in
     undoing-start (a .words) (a .log .now) (a .head) (a .tail) (a .supply) (a .home .now)
-
-sub-number : tie.Need-sub-number Inv-loop μ-loop
-sub-number c = omega arith
-
-sub-number-2 : tie.Need-sub-number-2 Inv-loop μ-loop
-sub-number-2 c = omega arith
-
-undo-at-requires : tie.Need-undo-at-requires Inv-loop μ-loop
-undo-at-requires c κs = search needs
-
-make-requires : tie.Need-make-requires Inv-loop μ-loop
-make-requires c κs = search needs
-
-add-turn : tie.Need-add-turn Inv-loop μ-loop
-add-turn c = omega arith
-
-loop-less : tie.Need-loop-less Inv-loop μ-loop
-loop-less c = omega arith
 
 loop-again : tie.Need-loop-again Inv-loop μ-loop
 loop-again c =
@@ -73,14 +52,14 @@ undo-pass-spec =
     (tie.spec
     Inv-loop
     μ-loop
-    sub-count
+    (λ c. search needs)
     loop-holds
-    sub-number
-    sub-number-2
-    undo-at-requires
-    make-requires
-    add-turn
-    loop-less
+    (λ c. omega arith)
+    (λ c. omega arith)
+    (λ c κs. search needs)
+    (λ c κs. search needs)
+    (λ c. omega arith)
+    (λ c. omega arith)
     loop-again
     same-length
     returns)

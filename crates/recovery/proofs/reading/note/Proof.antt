@@ -7,26 +7,8 @@ use borrow.Author.Needs.{needs}
 use Rattle.recovery.proofs.reading.note.Statement.{statement}
 use Rattle.recovery.proofs.reading.note.Tie as tie
 
-read-requires : tie.Need-read-requires
-read-requires c κs = search needs
-
-enum-known-reading : tie.Need-enum-known-reading
-enum-known-reading c = search needs
-
 enum-told : tie.Need-enum-told
 enum-told c = search needs
-
-enum-told-2 : tie.Need-enum-told-2
-enum-told-2 c = search needs
-
-enum-known-entry : tie.Need-enum-known-entry
-enum-known-entry c = search needs
-
-cast-t : tie.Need-cast-t
-cast-t c = search needs
-
-mul-last : tie.Need-mul-last
-mul-last c = search needs
 
 element-write-last : tie.Need-element-write-last
 element-write-last c =
@@ -36,9 +18,6 @@ element-write-last c =
     (c .before .before .before .before .reading .given .1)
     (c .before .entry .given .1) in
     omega (arith, v .thread)
-
-enum-told-3 : tie.Need-enum-told-3
-enum-told-3 c = search needs
 
 returns : tie.Need-returns
 returns c =
@@ -63,15 +42,15 @@ pub note-spec : {M : Type 1} → statement M
 note-spec =
     tie.close
     (tie.spec
-    read-requires
-    enum-known-reading
+    (λ c κs. search needs)
+    (λ c. search needs)
     enum-told
-    enum-told-2
-    enum-known-entry
-    cast-t
-    mul-last
+    (λ c. search needs)
+    (λ c. search needs)
+    (λ c. search needs)
+    (λ c. search needs)
     element-write-last
-    enum-told-3
+    (λ c. search needs)
     returns
     returns-2
     returns-3

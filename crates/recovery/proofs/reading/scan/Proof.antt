@@ -19,22 +19,10 @@ Inv-loop log words tail₀ bad₀ last₀ left₀ tail bad last left = Sofar wor
 abbrev μ-loop : tie.MeasureT-loop
 μ-loop log words tail₀ bad₀ last₀ left₀ tail bad last left = left
 
-head-requires : tie.Need-head-requires Inv-loop μ-loop
-head-requires c κs = search needs
-
-slots-requires : tie.Need-slots-requires Inv-loop μ-loop
-slots-requires c κs = search needs
-
 loop-holds : tie.Need-loop-holds Inv-loop μ-loop
 loop-holds c =
     let a = c .before .before .before .args in
     rw (c .slots .ensures, c .before .head .ensures) (sofar-start (a .words) (a .log .now))
-
-is-written-requires : tie.Need-is-written-requires Inv-loop μ-loop
-is-written-requires c κs = search needs
-
-note-requires : tie.Need-note-requires Inv-loop μ-loop
-note-requires c κs = search needs
 
 -- a turn is made where more may be read, and the next record is there
 more : (c : tie.Then1 Inv-loop μ-loop) → 0 < c .before .before .loop .left
@@ -68,11 +56,11 @@ scan-spec =
     (tie.spec
     Inv-loop
     μ-loop
-    head-requires
-    slots-requires
+    (λ c κs. search needs)
+    (λ c κs. search needs)
     loop-holds
-    is-written-requires
-    note-requires
+    (λ c κs. search needs)
+    (λ c κs. search needs)
     add-tail
     sub-left
     loop-less

@@ -3,17 +3,8 @@ use borrow.Author.Needs.{needs}
 use Rattle.recovery.proofs.recovering.fresh_state.Statement.{statement}
 use Rattle.recovery.proofs.recovering.fresh_state.Tie as tie
 
-free-requires : tie.Need-free-requires
-free-requires c κs = search needs
-
-empty-requires : tie.Need-empty-requires
-empty-requires c κs = search needs
-
-empty-requires-2 : tie.Need-empty-requires-2
-empty-requires-2 c κs = search needs
-
 returns : tie.Need-returns
 returns c = rw (c .before .before .free .ensures, c .before .empty .ensures, c .empty2 .ensures)
 
 pub fresh-state-spec : {M : Type 1} → statement M
-fresh-state-spec = tie.close (tie.spec free-requires empty-requires empty-requires-2 returns)
+fresh-state-spec = tie.close (tie.spec (λ c κs. search needs) (λ c κs. search needs) (λ c κs. search needs) returns)

@@ -3,11 +3,8 @@ use borrow.Author.Needs.{needs}
 use Rattle.recovery.proofs.recovering.refused.Statement.{statement}
 use Rattle.recovery.proofs.recovering.refused.Tie as tie
 
-lost-requires : tie.Need-lost-requires
-lost-requires c κs = search needs
-
 returns : tie.Need-returns
 returns c = rw (c .lost .ensures)
 
 pub refused-spec : {M : Type 1} → statement M
-refused-spec = tie.close (tie.spec lost-requires returns)
+refused-spec = tie.close (tie.spec (λ c κs. search needs) returns)

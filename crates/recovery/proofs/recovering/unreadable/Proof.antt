@@ -12,9 +12,6 @@ use borrow.Author.Needs.{needs}
 use Rattle.recovery.proofs.recovering.unreadable.Statement.{statement}
 use Rattle.recovery.proofs.recovering.unreadable.Tie as tie
 
-wrong-lengths-requires : tie.Need-wrong-lengths-requires
-wrong-lengths-requires c κs = search needs
-
 -- the buffers
 abbrev lent : tie.After-wrong-lengths → Memory
 lent c =
@@ -25,9 +22,6 @@ returns : tie.Need-returns
 returns c =
     let m = lent (c .before) in
     unread-number m true (ltb numbers (headOf (m .log))) (headOf (m .log)) (sym (c .if1 .taken) ∙ c .before .wrong-lengths .ensures) refl refl
-
-head-requires : tie.Need-head-requires
-head-requires c κs = search needs
 
 returns-2 : tie.Need-returns-2
 returns-2 c =
@@ -44,4 +38,4 @@ returns-3 c =
     (le-ltb numbers (head .result) (omega arith))
 
 pub unreadable-spec : {M : Type 1} → statement M
-unreadable-spec = tie.close (tie.spec wrong-lengths-requires returns head-requires returns-2 returns-3)
+unreadable-spec = tie.close (tie.spec (λ c κs. search needs) returns (λ c κs. search needs) returns-2 returns-3)

@@ -4,19 +4,10 @@ use Rattle.recovery.proofs.TwoPasses.{replay-damaged, replay-all}
 use Rattle.recovery.proofs.replaying.replay.Statement.{statement}
 use Rattle.recovery.proofs.replaying.replay.Tie as tie
 
-scan-requires : tie.Need-scan-requires
-scan-requires c κs = search needs
-
 returns : tie.Need-returns
 returns c =
     let a = c .before .before .before .before .args in
     replay-damaged (a .words) (a .log .now) (c .before .scan .result) (c .before .scan .ensures) (a .supply) (a .home .now) (c .if1 .taken)
-
-store-all-requires : tie.Need-store-all-requires
-store-all-requires c κs = search needs
-
-same-length : tie.Need-same-length
-same-length c = search needs
 
 returns-2 : tie.Need-returns-2
 returns-2 c =
@@ -27,4 +18,4 @@ returns-2 c =
     replay-all (a .words) (a .log .now) (found .result) (found .ensures) (a .supply) (a .home .now) (read .if1 .left) _ _ (out .0) (out .1)
 
 pub replay-spec : {M : Type 1} → statement M
-replay-spec = tie.close (tie.spec scan-requires returns store-all-requires same-length returns-2)
+replay-spec = tie.close (tie.spec (λ c κs. search needs) returns (λ c κs. search needs) (λ c. search needs) returns-2)

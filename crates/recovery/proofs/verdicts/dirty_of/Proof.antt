@@ -9,12 +9,6 @@ use borrow.Author.Needs.{needs}
 use Rattle.recovery.proofs.verdicts.dirty_of.Statement.{statement}
 use Rattle.recovery.proofs.verdicts.dirty_of.Tie as tie
 
-cast-at : tie.Need-cast-at
-cast-at c = search needs
-
-cast-lines : tie.Need-cast-lines
-cast-lines c = search needs
-
 shared-slice-read-result : tie.Need-shared-slice-read-result
 shared-slice-read-result c =
     let a = c .before .before .args in
@@ -31,4 +25,4 @@ returns-2 c s e f =
     word-flag s (a .words) (a .word) (a .dirty .now) false e f (c .if1 .left)
 
 pub dirty-of-spec : {M : Type 1} → statement M
-dirty-of-spec = tie.close (tie.spec cast-at cast-lines shared-slice-read-result returns returns-2)
+dirty-of-spec = tie.close (tie.spec (λ c. search needs) (λ c. search needs) shared-slice-read-result returns returns-2)

@@ -8,17 +8,11 @@ use borrow.Author.Needs.{needs}
 use Rattle.recovery.proofs.verdicts.judge.Statement.{statement}
 use Rattle.recovery.proofs.verdicts.judge.Tie as tie
 
-has-commit-requires : tie.Need-has-commit-requires
-has-commit-requires c κs = search needs
-
 returns : tie.Need-returns
 returns c s e f =
     let found = c .before .has-commit in
     let a = c .before .before .before .before .args in
     judged-by (view s) (a .thread) (a .word) _ false _ (sym (not-true (found .result) (c .if1 .taken)) ∙ found .ensures) refl
-
-dirty-of-requires : tie.Need-dirty-of-requires
-dirty-of-requires c κs = search needs
 
 returns-2 : tie.Need-returns-2
 returns-2 c s e f =
@@ -35,4 +29,4 @@ returns-3 c s e f =
     (sym (c .if2 .left) ∙ c .before .dirty-of .ensures s e f)
 
 pub judge-spec : {M : Type 1} → statement M
-judge-spec = tie.close (tie.spec has-commit-requires returns dirty-of-requires returns-2 returns-3)
+judge-spec = tie.close (tie.spec (λ c κs. search needs) returns (λ c κs. search needs) returns-2 returns-3)

@@ -13,15 +13,6 @@ use Rattle.recovery.proofs.verdicts.oldest_verdict.Tie as tie
 returns : tie.Need-returns
 returns c s mem h t w d g = verdict-nothing _ _ _ _ s mem h t w g (c .if1 .taken)
 
-add-from : tie.Need-add-from
-add-from c = search needs
-
-read-requires : tie.Need-read-requires
-read-requires c κs = search needs
-
-verdict-on-requires : tie.Need-verdict-on-requires
-verdict-on-requires c κs = search needs
-
 -- the records that are searched are those after the oldest
 after : (c : tie.Joined2)
     → let a = c .before .before .before .args in
@@ -42,4 +33,4 @@ returns-2 c s mem h t w d g =
     ∙ verdict-oldest _ _ _ _ s mem h t w g (joined .before .if1 .left)
 
 pub oldest-verdict-spec : {M : Type 1} → statement M
-oldest-verdict-spec = tie.close (tie.spec returns add-from read-requires verdict-on-requires returns-2)
+oldest-verdict-spec = tie.close (tie.spec returns (λ c. search needs) (λ c κs. search needs) (λ c κs. search needs) returns-2)

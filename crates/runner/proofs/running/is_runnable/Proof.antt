@@ -4,12 +4,9 @@ use Rattle.runner.specs.Running.{runnable}
 use Rattle.runner.proofs.running.is_runnable.Statement.{statement}
 use Rattle.runner.proofs.running.is_runnable.Tie as tie
 
-known-kinds-requires : tie.Need-known-kinds-requires
-known-kinds-requires c κs = search needs
-
 returns : tie.Need-returns
 unfolding runnable
 returns c = rw (c .known-kinds .ensures)
 
 pub is-runnable-spec : {M : Type 1} → statement M
-is-runnable-spec = tie.close (tie.spec known-kinds-requires returns)
+is-runnable-spec = tie.close (tie.spec (λ c κs. search needs) returns)

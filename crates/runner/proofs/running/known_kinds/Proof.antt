@@ -23,9 +23,6 @@ loop-holds c = (omega arith, refl)
 mul-if1 : tie.Need-mul-if1 Inv-loop μ-loop
 mul-if1 c = omega (arith, c .before .before .good)
 
-shared-slice-read-if1 : tie.Need-shared-slice-read-if1 Inv-loop μ-loop
-shared-slice-read-if1 c = omega arith
-
 returns : tie.Need-returns Inv-loop μ-loop
 unfolding all
 returns c =
@@ -33,12 +30,6 @@ returns c =
     let i = c .before .before .before .loop .i in
     let h : i < length kinds = omega arith in
     sym (c .before .before .before .loop .inv .1 ∙ rw (drop-cons kinds i 0 h, le-ltb (getD kinds i 0) 9 (c .if1 .taken)) refl)
-
-add-i : tie.Need-add-i Inv-loop μ-loop
-add-i c = omega arith
-
-loop-less : tie.Need-loop-less Inv-loop μ-loop
-loop-less c = omega arith
 
 loop-again : tie.Need-loop-again Inv-loop μ-loop
 unfolding all
@@ -64,9 +55,9 @@ known-kinds-spec =
     μ-loop
     loop-holds
     mul-if1
-    shared-slice-read-if1
+    (λ c. omega arith)
     returns
-    add-i
-    loop-less
+    (λ c. omega arith)
+    (λ c. omega arith)
     loop-again
     returns-2)

@@ -57,15 +57,6 @@ abbrev μ-loop : tie.MeasureT-loop
 μ-loop state₀ home₀ working₀ log₀ kinds threads places values supplies answers₀ stores₀ i₀ state home working log answers stores i =
     length kinds - i
 
-is-runnable-requires : tie.Need-is-runnable-requires Inv-loop μ-loop
-is-runnable-requires c κs = search needs
-
-same-length : tie.Need-same-length Inv-loop μ-loop
-same-length c = search needs
-
-same-length-2 : tie.Need-same-length-2 Inv-loop μ-loop
-same-length-2 c = search needs
-
 returns : tie.Need-returns Inv-loop μ-loop
 returns c =
     let a = c .before .before .before .before .before .before .before .before .before .before .before .before .before .before .args in
@@ -225,9 +216,9 @@ run-spec =
     (tie.spec
     Inv-loop
     μ-loop
-    is-runnable-requires
-    same-length
-    same-length-2
+    (λ c κs. search needs)
+    (λ c. search needs)
+    (λ c. search needs)
     returns
     loop-holds
     step-at-requires

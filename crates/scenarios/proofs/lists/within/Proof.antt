@@ -5,11 +5,8 @@ use borrow.Author.Needs.{needs}
 use Rattle.scenarios.proofs.lists.within.Statement.{statement}
 use Rattle.scenarios.proofs.lists.within.Tie as tie
 
-least-requires : tie.Need-least-requires
-least-requires c κs = search needs
-
 returns : tie.Need-returns
 returns c = (c .least .ensures, sym (length-take-le (c .least .result) (c .before .before .args .list .now) (c .least .ensures)))
 
 pub within-spec : {M : Type 1} → statement M
-within-spec = tie.close (tie.spec least-requires returns)
+within-spec = tie.close (tie.spec (λ c κs. search needs) returns)

@@ -10,18 +10,12 @@ use Rattle.state.proofs.Linear.{limits-hold, parts-consistent, outside-
 use Rattle.state.proofs.consistency.is_consistent.Statement.{statement}
 use Rattle.state.proofs.consistency.is_consistent.Tie as tie
 
-within-limits-requires : tie.Need-within-limits-requires
-within-limits-requires c κs = search needs
-
 returns : tie.Need-returns
 returns c =
     let a = c .before .before .args in
     outside-limits (a .words) (a .slots) (a .head) (a .tail) (a .opened .now) (a .holders .now) (a .states .now) (a .undos) (a .undo-threads .now)
     (a .undo-words .now) (a .redos) (a .redo-threads .now) (a .redo-words .now)
     (sym (c .before .within-limits .ensures) ∙ not-true _ (c .if1 .taken))
-
-cast-lines-sound : tie.Need-cast-lines-sound
-cast-lines-sound c = search needs
 
 -- where the limits are kept
 module _ (c : tie.Else1) where
@@ -54,9 +48,9 @@ pub is-consistent-spec : {M : Type 1} → statement M
 is-consistent-spec =
     tie.close
     (tie.spec
-    within-limits-requires
+    (λ c κs. search needs)
     returns
-    cast-lines-sound
+    (λ c. search needs)
     lines-sound-requires
     all-wait-requires
     returns-2)

@@ -23,20 +23,8 @@ loop-holds : tie.Need-loop-holds Inv-loop μ-loop
 unfolding all listed
 loop-holds c = (omega arith, λ holders. refl)
 
-mul-is-settled : tie.Need-mul-is-settled Inv-loop μ-loop
-mul-is-settled c = omega arith
-
-element-copy-out-is-settled : tie.Need-element-copy-out-is-settled Inv-loop μ-loop
-element-copy-out-is-settled c = omega arith
-
 is-settled-requires : tie.Need-is-settled-requires Inv-loop μ-loop
 is-settled-requires c κs = tt
-
-add-i : tie.Need-add-i Inv-loop μ-loop
-add-i c = omega arith
-
-loop-less : tie.Need-loop-less Inv-loop μ-loop
-loop-less c = omega arith
 
 loop-again : tie.Need-loop-again Inv-loop μ-loop
 loop-again c =
@@ -61,10 +49,10 @@ all-settled-spec =
     Inv-loop
     μ-loop
     loop-holds
-    mul-is-settled
-    element-copy-out-is-settled
+    (λ c. omega arith)
+    (λ c. omega arith)
     is-settled-requires
-    add-i
-    loop-less
+    (λ c. omega arith)
+    (λ c. omega arith)
     loop-again
     returns)

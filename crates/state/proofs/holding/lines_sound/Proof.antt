@@ -26,23 +26,8 @@ loop-holds : tie.Need-loop-holds Inv-loop μ-loop
 unfolding all listed
 loop-holds c = (omega arith, refl)
 
-element-copy-out-line-sound : tie.Need-element-copy-out-line-sound Inv-loop μ-loop
-element-copy-out-line-sound c = omega arith
-
-mul-line-sound : tie.Need-mul-line-sound Inv-loop μ-loop
-mul-line-sound c = omega arith
-
-element-copy-out-line-sound-2 : tie.Need-element-copy-out-line-sound-2 Inv-loop μ-loop
-element-copy-out-line-sound-2 c = omega arith
-
 line-sound-requires : tie.Need-line-sound-requires Inv-loop μ-loop
 line-sound-requires c κs = tt
-
-add-i : tie.Need-add-i Inv-loop μ-loop
-add-i c = omega arith
-
-loop-less : tie.Need-loop-less Inv-loop μ-loop
-loop-less c = omega arith
 
 loop-again : tie.Need-loop-again Inv-loop μ-loop
 loop-again c =
@@ -68,11 +53,11 @@ lines-sound-spec =
     μ-loop
     open-bits-requires
     loop-holds
-    element-copy-out-line-sound
-    mul-line-sound
-    element-copy-out-line-sound-2
+    (λ c. omega arith)
+    (λ c. omega arith)
+    (λ c. omega arith)
     line-sound-requires
-    add-i
-    loop-less
+    (λ c. omega arith)
+    (λ c. omega arith)
     loop-again
     returns)

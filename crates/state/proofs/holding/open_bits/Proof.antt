@@ -18,19 +18,10 @@ abbrev μ-loop : tie.MeasureT-loop
 loop-holds : tie.Need-loop-holds Inv-loop μ-loop
 loop-holds c = (omega arith, bits-none (c .args .opened .now))
 
-sub-t : tie.Need-sub-t Inv-loop μ-loop
-sub-t c = omega arith
-
 mul-bits : tie.Need-mul-bits Inv-loop μ-loop
 mul-bits c =
     let few = bits-few (c .before .before .args .opened .now) (c .before .loop .t) (c .before .loop .bits) (c .before .loop .inv .1) in
     search needs
-
-element-copy-out-bit : tie.Need-element-copy-out-bit Inv-loop μ-loop
-element-copy-out-bit c = omega arith
-
-bit-requires : tie.Need-bit-requires Inv-loop μ-loop
-bit-requires c κs = search needs
 
 add-bits : tie.Need-add-bits Inv-loop μ-loop
 add-bits c =
@@ -39,9 +30,6 @@ add-bits c =
     let few = bits-few opened (head .t) (head .bits) (head .inv .1) in
     let one : c .bit .result ≤ 1 = rw (c .bit .ensures) (at-most-one (getD opened (head .t - 1) false)) in
     search needs
-
-loop-less : tie.Need-loop-less Inv-loop μ-loop
-loop-less c = omega arith
 
 loop-again : tie.Need-loop-again Inv-loop μ-loop
 loop-again c =
@@ -62,11 +50,11 @@ open-bits-spec =
     Inv-loop
     μ-loop
     loop-holds
-    sub-t
+    (λ c. omega arith)
     mul-bits
-    element-copy-out-bit
-    bit-requires
+    (λ c. omega arith)
+    (λ c κs. search needs)
     add-bits
-    loop-less
+    (λ c. omega arith)
     loop-again
     returns)

@@ -10,12 +10,9 @@ returns : tie.Need-returns
 unfolding inLimits
 returns c = rw (lt-leb (c .before .args .head) numbers (c .if1 .taken))
 
-add-order : tie.Need-add-order
-add-order c = search needs
-
 returns-2 : tie.Need-returns-2
 unfolding inLimits
 returns-2 c = rw (le-leb (c .before .args .head) numbers (c .if1 .left))
 
 pub within-limits-spec : {M : Type 1} → statement M
-within-limits-spec = tie.close (tie.spec returns add-order returns-2)
+within-limits-spec = tie.close (tie.spec returns (λ c. search needs) returns-2)

@@ -4,12 +4,9 @@ use borrow.Author.Needs.{needs}
 use Rattle.state.proofs.memory.wrong_lengths.Statement.{statement}
 use Rattle.state.proofs.memory.wrong_lengths.Tie as tie
 
-slots-requires : tie.Need-slots-requires
-slots-requires c κs = search needs
-
 returns : tie.Need-returns
 unfolding wrongLengths
 returns c = simp (c .slots .ensures)
 
 pub wrong-lengths-spec : {M : Type 1} → statement M
-wrong-lengths-spec = tie.close (tie.spec slots-requires returns)
+wrong-lengths-spec = tie.close (tie.spec (λ c κs. search needs) returns)

@@ -13,12 +13,6 @@ use Rattle.state.proofs.CleanWords.{redos-after}
 use Rattle.state.proofs.waiting_entries.all_wait.Statement.{statement}
 use Rattle.state.proofs.waiting_entries.all_wait.Tie as tie
 
-undos-wait-requires : tie.Need-undos-wait-requires
-undos-wait-requires c κs = search needs
-
-redos-wait-requires : tie.Need-redos-wait-requires
-redos-wait-requires c κs = search needs
-
 returns : tie.Need-returns
 returns c =
     let start = c .before .before .before .before in
@@ -33,4 +27,4 @@ returns c =
     (undos .ensures .0) (λ passed. redos .ensures ∙ ap (λ (ls : List Line). redosWait (a .words) ls es) (undos .ensures .1 .1 passed))
 
 pub all-wait-spec : {M : Type 1} → statement M
-all-wait-spec = tie.close (tie.spec undos-wait-requires redos-wait-requires returns)
+all-wait-spec = tie.close (tie.spec (λ c κs. search needs) (λ c κs. search needs) returns)

@@ -21,18 +21,6 @@ loop-holds c =
     let b = a .buffer in
     (omega arith, reached-start (a .count) (a .threads .now) (a .targets .now) (awaited b) (markOf b) (a .words) (a .holders .now) (a .states .now))
 
-shared-slice-read-thread : tie.Need-shared-slice-read-thread Inv-loop μ-loop
-shared-slice-read-thread c = omega arith
-
-mul-word : tie.Need-mul-word Inv-loop μ-loop
-mul-word c = omega arith
-
-shared-slice-read-word : tie.Need-shared-slice-read-word Inv-loop μ-loop
-shared-slice-read-word c = omega arith
-
-waits-requires : tie.Need-waits-requires Inv-loop μ-loop
-waits-requires c κs = search needs
-
 returns : tie.Need-returns Inv-loop μ-loop
 returns c =
     let a = c .before .before .before .before .before .before .before .before .before .args in
@@ -42,12 +30,6 @@ returns c =
     reached-fails (a .count) (a .threads .now) (a .targets .now) (awaited b) (markOf b) (a .words) (a .holders .now) (a .states .now) (head .i)
     (head .states) (called .last .1 .1 .0) (called .result) (c .before .before .before .before .before .loop-test .taken) (head .inv .1)
     (called .ensures) (not-true (called .result) (c .if1 .taken))
-
-add-i : tie.Need-add-i Inv-loop μ-loop
-add-i c = omega arith
-
-loop-less : tie.Need-loop-less Inv-loop μ-loop
-loop-less c = omega arith
 
 loop-again : tie.Need-loop-again Inv-loop μ-loop
 loop-again c =
@@ -75,12 +57,12 @@ each-waits-spec =
     Inv-loop
     μ-loop
     loop-holds
-    shared-slice-read-thread
-    mul-word
-    shared-slice-read-word
-    waits-requires
+    (λ c. omega arith)
+    (λ c. omega arith)
+    (λ c. omega arith)
+    (λ c κs. search needs)
     returns
-    add-i
-    loop-less
+    (λ c. omega arith)
+    (λ c. omega arith)
     loop-again
     returns-2)

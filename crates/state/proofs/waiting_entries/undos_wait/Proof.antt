@@ -6,15 +6,6 @@ use Rattle.state.proofs.Walking.{undos-walked}
 use Rattle.state.proofs.waiting_entries.undos_wait.Statement.{statement}
 use Rattle.state.proofs.waiting_entries.undos_wait.Tie as tie
 
-each-waits-requires : tie.Need-each-waits-requires
-each-waits-requires c κs = search needs
-
-cast-all-settled : tie.Need-cast-all-settled
-cast-all-settled c = search needs
-
-all-settled-requires : tie.Need-all-settled-requires
-all-settled-requires c κs = search needs
-
 returns : tie.Need-returns
 returns c =
     let a = c .before .before .before .before .before .before .args in
@@ -27,4 +18,4 @@ returns c =
 
 pub undos-wait-spec : {M : Type 1} → statement M
 undos-wait-spec =
-    tie.close (tie.spec each-waits-requires cast-all-settled all-settled-requires returns)
+    tie.close (tie.spec (λ c κs. search needs) (λ c. search needs) (λ c κs. search needs) returns)

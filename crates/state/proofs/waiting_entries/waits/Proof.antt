@@ -20,27 +20,6 @@ returns c =
     let a = c .before .args in
     walked-unused (awaited (a .buffer)) (markOf (a .buffer)) (a .words) (a .holders .now) (a .states .now) (a .thread) (a .word) (c .if1 .taken)
 
-cast-at : tie.Need-cast-at
-cast-at c = search needs
-
-cast-place : tie.Need-cast-place
-cast-place c = search needs
-
-mul-line : tie.Need-mul-line
-mul-line c = search needs
-
-element-copy-out-line : tie.Need-element-copy-out-line
-element-copy-out-line c = search needs
-
-state-at-requires : tie.Need-state-at-requires
-state-at-requires c κs = search needs
-
-waits-for-requires : tie.Need-waits-for-requires
-waits-for-requires c κs = search needs
-
-element-copy-out-if2 : tie.Need-element-copy-out-if2
-element-copy-out-if2 c = search needs
-
 returns-2 : tie.Need-returns-2
 returns-2 c =
     let a = c .before .before .before .before .before .before .args in
@@ -48,18 +27,6 @@ returns-2 c =
     walked-not (awaited (a .buffer)) (markOf (a .buffer)) (a .words) (a .holders .now) (a .states .now) (a .thread) (a .word)
     (waits .waits-for .result) (omega arith) (waits .before .before .before .if1 .left)
     (rw (waits .before .state-at .ensures) at (waits .waits-for .ensures)) (not-true _ (c .if2 .taken))
-
-mark-requires : tie.Need-mark-requires
-mark-requires c κs = search needs
-
-with-state-requires : tie.Need-with-state-requires
-with-state-requires c κs = search needs
-
-mul-states : tie.Need-mul-states
-mul-states c = search needs
-
-element-write-states : tie.Need-element-write-states
-element-write-states c = search needs
 
 returns-3 : tie.Need-returns-3
 returns-3 c =
@@ -77,16 +44,16 @@ waits-spec =
     tie.close
     (tie.spec
     returns
-    cast-at
-    cast-place
-    mul-line
-    element-copy-out-line
-    state-at-requires
-    waits-for-requires
-    element-copy-out-if2
+    (λ c. search needs)
+    (λ c. search needs)
+    (λ c. search needs)
+    (λ c. search needs)
+    (λ c κs. search needs)
+    (λ c κs. search needs)
+    (λ c. search needs)
     returns-2
-    mark-requires
-    with-state-requires
-    mul-states
-    element-write-states
+    (λ c κs. search needs)
+    (λ c κs. search needs)
+    (λ c. search needs)
+    (λ c. search needs)
     returns-3)

@@ -44,15 +44,6 @@ begin-done m t n c mem zero number none =
     rw f
     (sym (way-done (begin t) c m mem zero n number none [] (beginNext m t) (mem .working) refl (omega arith) ∙ (simp (stored-none, sub-zero))))
 
-element-copy-out-refuse : tie.Need-element-copy-out-refuse
-element-copy-out-refuse c = search needs
-
-refuse-requires : tie.Need-refuse-requires
-refuse-requires c κs = search needs
-
-refuse-requires-2 : tie.Need-refuse-requires-2
-refuse-requires-2 c κs = search needs
-
 -- the number that the code computes
 module _ (c : tie.After-refuse2) where
   abbrev start : tie.Start
@@ -61,9 +52,6 @@ module _ (c : tie.After-refuse2) where
   computed : c .refuse2 .result ≡ numberOf (beginRows (view (start .args .t1)) (start .args .thread))
   computed =
       begin-number (view (start .args .t1)) (start .args .thread) (c .refuse2 .result) (simp (c .refuse2 .ensures, c .before .refuse .ensures))
-
-refused-requires : tie.Need-refused-requires
-refused-requires c κs = search needs
 
 returns : tie.Need-returns
 returns c =
@@ -74,9 +62,6 @@ returns c =
     refused-way (begin (a .thread)) (a .supply) (a .t1) mem (start d .pre) (d .refuse2 .result) (computed d) (c .before .if1 .taken) refl
     (c .refused .result) (c .refused .ensures) in
     (λ mem. way mem .0, way (memory [] [] []) .1)
-
-element-write-state : tie.Need-element-write-state
-element-write-state c = search needs
 
 returns-2 : tie.Need-returns-2
 returns-2 c =
@@ -90,10 +75,10 @@ pub begun-spec : {M : Type 1} → statement M
 begun-spec =
     tie.close
     (tie.spec
-    element-copy-out-refuse
-    refuse-requires
-    refuse-requires-2
-    refused-requires
+    (λ c. search needs)
+    (λ c κs. search needs)
+    (λ c κs. search needs)
+    (λ c κs. search needs)
     returns
-    element-write-state
+    (λ c. search needs)
     returns-2)

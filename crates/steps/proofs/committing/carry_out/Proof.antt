@@ -32,20 +32,8 @@ cast-append-commit : tie.Need-cast-append-commit
 cast-append-commit c = omega
     (arith, c .before .before .before .before .before .before .before .before .before .before .before .before .before .before .pre)
 
-append-commit-requires : tie.Need-append-commit-requires
-append-commit-requires c κs = search needs
-
 mul-if1 : tie.Need-mul-if1
 mul-if1 c = omega (arith, start (c .before .before) .pre)
-
-cut-requires : tie.Need-cut-requires
-cut-requires c κs = search needs
-
-same-length : tie.Need-same-length
-same-length c = search needs
-
-same-length-2 : tie.Need-same-length-2
-same-length-2 c = search needs
 
 returns : tie.Need-returns
 returns c home allowed =
@@ -66,27 +54,15 @@ places c = search needs
 whole : (c : tie.Start) → WholeLines (c .args .t1 .lines)
 whole c = search needs
 
-mark-logged-requires : tie.Need-mark-logged-requires
-mark-logged-requires c κs = search needs
-
-cast-lines : tie.Need-cast-lines
-cast-lines c = search needs
-
 cast-release-states : tie.Need-cast-release-states
 cast-release-states c =
     let p = start (c .before .before .before .before .before .before .before .before .before .before) .pre in
     omega arith
 
-release-states-requires : tie.Need-release-states-requires
-release-states-requires c κs = search needs
-
 cast-release-holders : tie.Need-cast-release-holders
 cast-release-holders c =
     let p = start (c .before .before .before .before .before .before .before .before .before .before .before .before) .pre in
     omega arith
-
-release-holders-requires : tie.Need-release-holders-requires
-release-holders-requires c κs = search needs
 
 element-write-state : tie.Need-element-write-state
 element-write-state c =
@@ -97,12 +73,6 @@ add-state : tie.Need-add-state
 add-state c =
     let p = start (c .before .before .before .before .before .before .before .before .before .before .before .before .before .before .before) .pre in
     search needs
-
-same-length-3 : tie.Need-same-length-3
-same-length-3 c = search needs
-
-same-length-4 : tie.Need-same-length-4
-same-length-4 c = search needs
 
 returns-2 : tie.Need-returns-2
 returns-2 c home allowed =
@@ -140,20 +110,20 @@ carry-out-spec =
     tie.close
     (tie.spec
     cast-append-commit
-    append-commit-requires
+    (λ c κs. search needs)
     mul-if1
-    cut-requires
-    same-length
-    same-length-2
+    (λ c κs. search needs)
+    (λ c. search needs)
+    (λ c. search needs)
     returns
-    mark-logged-requires
-    cast-lines
+    (λ c κs. search needs)
+    (λ c. search needs)
     cast-release-states
-    release-states-requires
+    (λ c κs. search needs)
     cast-release-holders
-    release-holders-requires
+    (λ c κs. search needs)
     element-write-state
     add-state
-    same-length-3
-    same-length-4
+    (λ c. search needs)
+    (λ c. search needs)
     returns-2)

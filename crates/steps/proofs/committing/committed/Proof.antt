@@ -39,9 +39,6 @@ count-records-requires c κs =
     let z = size (c .before .before .before) in
     (omega arith, (omega arith, (omega arith, omega arith)))
 
-element-copy-out-open : tie.Need-element-copy-out-open
-element-copy-out-open c = search needs
-
 commit-refusal-requires : tie.Need-commit-refusal-requires
 commit-refusal-requires c κs =
     let z = size (c .before .before .before .before .before) in
@@ -58,9 +55,6 @@ later c =
     let mem = memory (a .home .now) (a .working .now) (a .log .now) in
     c .commit-refusal .ensures (view (a .state)) mem (ap (λ (os : List Bool). getD os (a .thread % 8) false) (sym (start .pre .0 .isOpened)))
     (record { slots = refl; head = refl; tail = refl }) (counted (c .before .before))
-
-refused-requires : tie.Need-refused-requires
-refused-requires c κs = search needs
 
 returns : tie.Need-returns
 returns c =
@@ -93,12 +87,6 @@ carry-out-requires c κs =
     let room = commit-appends (a .state) (a .thread) (a .home .now) (a .working .now) (a .log .now) count (allowed passed) .room in
     (thread, (y .words, (y .undos, omega (arith, room .numbered (y .tail), allowed passed .records))))
 
-same-length : tie.Need-same-length
-same-length c = search needs
-
-same-length-2 : tie.Need-same-length-2
-same-length-2 c = search needs
-
 returns-2 : tie.Need-returns-2
 returns-2 c =
     let passed = c .before .before .before .before .before .before .before in
@@ -110,11 +98,11 @@ committed-spec =
     tie.close
     (tie.spec
     count-records-requires
-    element-copy-out-open
+    (λ c. search needs)
     commit-refusal-requires
-    refused-requires
+    (λ c κs. search needs)
     returns
     carry-out-requires
-    same-length
-    same-length-2
+    (λ c. search needs)
+    (λ c. search needs)
     returns-2)

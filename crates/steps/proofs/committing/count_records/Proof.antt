@@ -10,15 +10,6 @@ use Rattle.steps.proofs.Commits.{commit-count}
 use Rattle.steps.proofs.committing.count_records.Statement.{statement}
 use Rattle.steps.proofs.committing.count_records.Tie as tie
 
-cast-count-newest : tie.Need-cast-count-newest
-cast-count-newest c = search needs
-
-count-newest-requires : tie.Need-count-newest-requires
-count-newest-requires c κs = search needs
-
-add-result : tie.Need-add-result
-add-result c = search needs
-
 -- at most as many ULog words as words
 few : (c : tie.After-count-newest) → c .count-newest .result ≤ 512
 few c =
@@ -50,4 +41,4 @@ returns c =
 pub count-records-spec : {M : Type 1} → statement M
 count-records-spec =
     tie.close
-    (tie.spec cast-count-newest count-newest-requires add-result add-result-2 add-result-3 returns)
+    (tie.spec (λ c. search needs) (λ c κs. search needs) (λ c. search needs) add-result-2 add-result-3 returns)

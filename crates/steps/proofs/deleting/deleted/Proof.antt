@@ -25,12 +25,6 @@ taken s = s .args .state
 abbrev lent : tie.Start → Memory
 lent s = memory (s .args .home .now) (s .args .working .now) (s .args .log .now)
 
-oldest-verdict-requires : tie.Need-oldest-verdict-requires
-oldest-verdict-requires c κs = search needs
-
-refusal-requires : tie.Need-refusal-requires
-refusal-requires c κs = search needs
-
 -- the number is that of the verdict's rows
 number : (c : tie.After-refusal) → c .refusal .result ≡ numberOf (deleteRows (view (taken (start c))) (lent (start c)))
 number c =
@@ -41,12 +35,6 @@ number c =
 -- no row applies where the delete goes on
 none : (c : tie.Else1) → numberOf (deleteRows (view (taken (start (c .before)))) (lent (start (c .before)))) ≡ 0
 none c = sym (number (c .before)) ∙ c .if1 .left
-
-refused-requires : tie.Need-refused-requires
-refused-requires c κs = search needs
-
-same-length : tie.Need-same-length
-same-length c = search needs
 
 returns : tie.Need-returns
 returns c =
@@ -61,18 +49,6 @@ add-head c =
     let f = common-fit (view (taken s)) (lent s) (s .pre) in
     omega (arith, f .clauses .head)
 
-set-head-requires : tie.Need-set-head-requires
-set-head-requires c κs = search needs
-
-cut-requires : tie.Need-cut-requires
-cut-requires c κs = search needs
-
-same-length-2 : tie.Need-same-length-2
-same-length-2 c = search needs
-
-same-length-3 : tie.Need-same-length-3
-same-length-3 c = search needs
-
 returns-2 : tie.Need-returns-2
 returns-2 c =
     let d = c .before .before .before .before .before .before .before .before .before .before in
@@ -81,9 +57,6 @@ returns-2 c =
     delete-cut (s .args .supply) (view (taken s)) (lent s) (s .pre) (none d) (out .result) _
     (c .before .before .before .before .before .before .before .set-head .ensures .1) _ (c .before .before .before .before .if2 .taken)
     (out .ensures .0) (out .ensures .1)
-
-same-length-4 : tie.Need-same-length-4
-same-length-4 c = search needs
 
 returns-3 : tie.Need-returns-3
 returns-3 c =
@@ -97,16 +70,16 @@ pub deleted-spec : {M : Type 1} → statement M
 deleted-spec =
     tie.close
     (tie.spec
-    oldest-verdict-requires
-    refusal-requires
-    refused-requires
-    same-length
+    (λ c κs. search needs)
+    (λ c κs. search needs)
+    (λ c κs. search needs)
+    (λ c. search needs)
     returns
     add-head
-    set-head-requires
-    cut-requires
-    same-length-2
-    same-length-3
+    (λ c κs. search needs)
+    (λ c κs. search needs)
+    (λ c. search needs)
+    (λ c. search needs)
     returns-2
-    same-length-4
+    (λ c. search needs)
     returns-3)

@@ -94,12 +94,6 @@ no-room-requires c κs =
     let h = few (start c) in
     (f .clauses .order, (f .clauses .span, (f .clauses .tail, omega (arith, c .lacking .ensures .0))))
 
-line-refusal-requires : tie.Need-line-refusal-requires
-line-refusal-requires c κs = search needs
-
-refused-requires : tie.Need-refused-requires
-refused-requires c κs = search needs
-
 returns : tie.Need-returns
 returns c =
     let found = c .before .before in
@@ -107,9 +101,6 @@ returns c =
     refused-way (evict (s .args .line)) (s .args .supply) (s .args .t1) (lent s) (s .pre) (found .line-refusal .result) (number found)
     (c .before .if1 .taken) refl
     (c .refused .result) (c .refused .ensures)
-
-append-redos-requires : tie.Need-append-redos-requires
-append-redos-requires c κs = search needs
 
 -- where the records were appended, and before
 abbrev unrefused : tie.After-append-redos → tie.Else1
@@ -120,15 +111,6 @@ mul-if2 c =
     let e = unrefused (c .before .before) in
     let h = few (began e) in
     omega (arith, taken e .lacking .ensures .0)
-
-cut-requires : tie.Need-cut-requires
-cut-requires c κs = search needs
-
-same-length : tie.Need-same-length
-same-length c = search needs
-
-same-length-2 : tie.Need-same-length-2
-same-length-2 c = search needs
 
 returns-2 : tie.Need-returns-2
 returns-2 c =
@@ -157,20 +139,8 @@ states-at-requires c κs = place (unread c)
 holder-at-requires : tie.Need-holder-at-requires
 holder-at-requires c κs = place (unread (c .before .before .before .before))
 
-refill-threads-requires : tie.Need-refill-threads-requires
-refill-threads-requires c κs = search needs
-
-refill-words-requires : tie.Need-refill-words-requires
-refill-words-requires c κs = search needs
-
-refill-redos-requires : tie.Need-refill-redos-requires
-refill-redos-requires c κs = search needs
-
 sub-state : tie.Need-sub-state
 sub-state c = taken (unread (c .before .before .before .before .before .before .before .before .before .before .before .before)) .lacking .ensures .0
-
-count-ulog-requires : tie.Need-count-ulog-requires
-count-ulog-requires c κs = search needs
 
 add-state : tie.Need-add-state
 add-state c =
@@ -193,9 +163,6 @@ add-state-2 c =
     let f = passed e .fits .clauses .tail in
     let h = few (began e) in
     omega (arith, taken e .lacking .ensures .0)
-
-same-length-3 : tie.Need-same-length-3
-same-length-3 c = search needs
 
 -- a line whose words are all Clean stays, and nothing is logged for it
 returns-3 : tie.Need-returns-3
@@ -248,24 +215,24 @@ evicted-spec =
     (tie.spec
     lacking-requires
     no-room-requires
-    line-refusal-requires
-    refused-requires
+    (λ c κs. search needs)
+    (λ c κs. search needs)
     returns
-    append-redos-requires
+    (λ c κs. search needs)
     mul-if2
-    cut-requires
-    same-length
-    same-length-2
+    (λ c κs. search needs)
+    (λ c. search needs)
+    (λ c. search needs)
     returns-2
     states-at-requires
     holder-at-requires
-    refill-threads-requires
-    refill-words-requires
-    refill-redos-requires
+    (λ c κs. search needs)
+    (λ c κs. search needs)
+    (λ c κs. search needs)
     sub-state
-    count-ulog-requires
+    (λ c κs. search needs)
     add-state
     put-states-requires
     add-state-2
-    same-length-3
+    (λ c. search needs)
     returns-3)

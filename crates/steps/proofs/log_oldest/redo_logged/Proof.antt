@@ -71,27 +71,12 @@ refusal-requires c κs =
     let s = c .before .before .before in
     in-log (view (s .args .t1)) (lent s) (s .pre)
 
-refused-requires : tie.Need-refused-requires
-refused-requires c κs = search needs
-
 returns : tie.Need-returns
 returns c =
     let d = c .before .before in
     let s = start d in
     refused-way logRedo (s .args .supply) (s .args .t1) (lent s) (s .pre) (d .refusal .result) (number d) (c .before .if1 .taken) refl
     (c .refused .result) (c .refused .ensures)
-
-append-redos-requires : tie.Need-append-redos-requires
-append-redos-requires c κs = search needs
-
-cut-requires : tie.Need-cut-requires
-cut-requires c κs = search needs
-
-same-length : tie.Need-same-length
-same-length c = search needs
-
-same-length-2 : tie.Need-same-length-2
-same-length-2 c = search needs
 
 returns-2 : tie.Need-returns-2
 returns-2 c =
@@ -104,15 +89,6 @@ returns-2 c =
     append-cut (appends begun) (s .args .supply) 1 (ended .cut .result) (ended .cut .last .0) (e .last .0) (e .result) (k .one)
     (ended .before .before .if2 .taken) (redos-appended 1 (s .args .t1 .redos) (k .short) (e .ensures)) (ended .cut .ensures .0) (ended .cut .ensures .1)
 
-remove-threads-requires : tie.Need-remove-threads-requires
-remove-threads-requires c κs = search needs
-
-remove-words-requires : tie.Need-remove-words-requires
-remove-words-requires c κs = search needs
-
-remove-values-requires : tie.Need-remove-values-requires
-remove-values-requires c κs = search needs
-
 sub-state : tie.Need-sub-state
 sub-state c =
     let k = passed-known (passed (c .before .before .before .before .before .before .before .before .before)) in
@@ -122,9 +98,6 @@ add-state : tie.Need-add-state
 add-state c =
     let k = passed-known (passed (c .before .before .before .before .before .before .before .before .before .before)) in
     omega (arith, k .fits .clauses .tail)
-
-same-length-3 : tie.Need-same-length-3
-same-length-3 c = search needs
 
 returns-3 : tie.Need-returns-3
 returns-3 c =
@@ -152,17 +125,17 @@ redo-logged-spec =
     tie.close
     (tie.spec
     refusal-requires
-    refused-requires
+    (λ c κs. search needs)
     returns
-    append-redos-requires
-    cut-requires
-    same-length
-    same-length-2
+    (λ c κs. search needs)
+    (λ c κs. search needs)
+    (λ c. search needs)
+    (λ c. search needs)
     returns-2
-    remove-threads-requires
-    remove-words-requires
-    remove-values-requires
+    (λ c κs. search needs)
+    (λ c κs. search needs)
+    (λ c κs. search needs)
     sub-state
     add-state
-    same-length-3
+    (λ c. search needs)
     returns-3)

@@ -75,27 +75,12 @@ refusal-requires c κs =
     let s = c .before .before .before in
     in-log (view (s .args .t1)) (lent s) (s .pre)
 
-refused-requires : tie.Need-refused-requires
-refused-requires c κs = search needs
-
 returns : tie.Need-returns
 returns c =
     let d = c .before .before in
     let s = start d in
     refused-way logUndo (s .args .supply) (s .args .t1) (lent s) (s .pre) (d .refusal .result) (number d) (c .before .if1 .taken) refl
     (c .refused .result) (c .refused .ensures)
-
-append-undos-requires : tie.Need-append-undos-requires
-append-undos-requires c κs = search needs
-
-cut-requires : tie.Need-cut-requires
-cut-requires c κs = search needs
-
-same-length : tie.Need-same-length
-same-length c = search needs
-
-same-length-2 : tie.Need-same-length-2
-same-length-2 c = search needs
 
 returns-2 : tie.Need-returns-2
 returns-2 c =
@@ -108,21 +93,6 @@ returns-2 c =
     append-cut (appends begun) (s .args .supply) 1 (ended .cut .result) (ended .cut .last .0) (e .last .0) (e .result) (k .one)
     (ended .before .before .if2 .taken) (undos-appended 1 (s .args .t1 .undos) (k .short) (e .ensures)) (ended .cut .ensures .0) (ended .cut .ensures .1)
 
-mark-logged-requires : tie.Need-mark-logged-requires
-mark-logged-requires c κs = search needs
-
-remove-threads-requires : tie.Need-remove-threads-requires
-remove-threads-requires c κs = search needs
-
-remove-words-requires : tie.Need-remove-words-requires
-remove-words-requires c κs = search needs
-
-remove-values-requires : tie.Need-remove-values-requires
-remove-values-requires c κs = search needs
-
-remove-values-requires-2 : tie.Need-remove-values-requires-2
-remove-values-requires-2 c κs = search needs
-
 sub-state : tie.Need-sub-state
 sub-state c =
     let taken = c .before .before .before .before .before .before .before .before .before .before .before .before in
@@ -134,9 +104,6 @@ add-state c =
     let taken = c .before .before .before .before .before .before .before .before .before .before .before .before .before in
     let k = passed-known (passed (taken .before .before .before)) in
     omega (arith, k .fits .clauses .tail)
-
-same-length-3 : tie.Need-same-length-3
-same-length-3 c = search needs
 
 returns-3 : tie.Need-returns-3
 returns-3 c =
@@ -175,19 +142,19 @@ undo-logged-spec =
     tie.close
     (tie.spec
     refusal-requires
-    refused-requires
+    (λ c κs. search needs)
     returns
-    append-undos-requires
-    cut-requires
-    same-length
-    same-length-2
+    (λ c κs. search needs)
+    (λ c κs. search needs)
+    (λ c. search needs)
+    (λ c. search needs)
     returns-2
-    mark-logged-requires
-    remove-threads-requires
-    remove-words-requires
-    remove-values-requires
-    remove-values-requires-2
+    (λ c κs. search needs)
+    (λ c κs. search needs)
+    (λ c κs. search needs)
+    (λ c κs. search needs)
+    (λ c κs. search needs)
     sub-state
     add-state
-    same-length-3
+    (λ c. search needs)
     returns-3)

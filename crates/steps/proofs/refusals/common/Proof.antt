@@ -5,21 +5,6 @@ use borrow.Author.Needs.{needs}
 use Rattle.steps.proofs.refusals.common.Statement.{statement}
 use Rattle.steps.proofs.refusals.common.Tie as tie
 
-head-requires : tie.Need-head-requires
-head-requires c κs = search needs
-
-wrong-size-requires : tie.Need-wrong-size-requires
-wrong-size-requires c κs = search needs
-
-refuse-requires : tie.Need-refuse-requires
-refuse-requires c κs = search needs
-
-refuse-requires-2 : tie.Need-refuse-requires-2
-refuse-requires-2 c κs = search needs
-
-refuse-requires-3 : tie.Need-refuse-requires-3
-refuse-requires-3 c κs = search needs
-
 returns : tie.Need-returns
 unfolding numberOf consistentWith
 returns c m lost words slots head sound =
@@ -36,4 +21,4 @@ returns c m lost words slots head sound =
 
 pub common-spec : {M : Type 1} → statement M
 common-spec =
-    tie.close (tie.spec head-requires wrong-size-requires refuse-requires refuse-requires-2 refuse-requires-3 returns)
+    tie.close (tie.spec (λ c κs. search needs) (λ c κs. search needs) (λ c κs. search needs) (λ c κs. search needs) (λ c κs. search needs) returns)

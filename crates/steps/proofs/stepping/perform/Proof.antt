@@ -13,12 +13,6 @@ use Rattle.steps.proofs.Sound.{sound-here}
 use Rattle.steps.proofs.stepping.perform.Statement.{statement}
 use Rattle.steps.proofs.stepping.perform.Tie as tie
 
-takes-state-requires : tie.Need-takes-state-requires
-takes-state-requires c κs = search needs
-
-is-consistent-requires : tie.Need-is-consistent-requires
-is-consistent-requires c κs = search needs
-
 -- where the step began, before the state was tested
 abbrev start : tie.Joined1 → tie.Start
 start c = c .before .before .before .before .before .before .before .before .before .before .before .before
@@ -43,18 +37,6 @@ module _ (c : tie.After-first-refusal) where
   number : c .first-refusal .result ≡ numberOf (firstRows (begun .args .step) (view (begun .args .state)) lent)
   number = c .first-refusal .ensures
 
-refused-requires : tie.Need-refused-requires
-refused-requires c κs = search needs
-
-same-length : tie.Need-same-length
-same-length c = search needs
-
-same-length-2 : tie.Need-same-length-2
-same-length-2 c = search needs
-
-same-length-3 : tie.Need-same-length-3
-same-length-3 c = search needs
-
 returns : tie.Need-returns
 returns c =
     let d = c .before .before in
@@ -67,32 +49,20 @@ dispatch-requires c κs =
     let e = c .before .before .before .before .before .before in
     (record { isOpened = refl; isHolders = refl; isStates = refl }, sym (number (e .before)) ∙ e .if2 .left)
 
-same-length-4 : tie.Need-same-length-4
-same-length-4 c = search needs
-
-same-length-5 : tie.Need-same-length-5
-same-length-5 c = search needs
-
-same-length-6 : tie.Need-same-length-6
-same-length-6 c = search needs
-
-returns-2 : tie.Need-returns-2
-returns-2 c = search needs
-
 pub perform-spec : {M : Type 1} → statement M
 perform-spec =
     tie.close
     (tie.spec
-    takes-state-requires
-    is-consistent-requires
+    (λ c κs. search needs)
+    (λ c κs. search needs)
     first-refusal-requires
-    refused-requires
-    same-length
-    same-length-2
-    same-length-3
+    (λ c κs. search needs)
+    (λ c. search needs)
+    (λ c. search needs)
+    (λ c. search needs)
     returns
     dispatch-requires
-    same-length-4
-    same-length-5
-    same-length-6
-    returns-2)
+    (λ c. search needs)
+    (λ c. search needs)
+    (λ c. search needs)
+    (λ c. search needs))

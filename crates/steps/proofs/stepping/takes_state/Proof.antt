@@ -12,14 +12,8 @@ use Rattle.steps.proofs.stepping.takes_state.Tie as tie
 abbrev others : List ℕ
 others = 0 ∷ 1 ∷ 2 ∷ 3 ∷ 4 ∷ 5 ∷ 6 ∷ 7 ∷ []
 
-enum-told : tie.Need-enum-told
-enum-told c = search needs
-
-returns : tie.Need-returns
-returns c = search needs
-
 returns-2 : tie.Need-returns-2
 returns-2 c = sym (takes-one others (c .before .args .step) (λ one. miss others 8 tt one) (c .match .keys2))
 
 pub takes-state-spec : {M : Type 1} → statement M
-takes-state-spec = tie.close (tie.spec enum-told returns returns-2)
+takes-state-spec = tie.close (tie.spec (λ c. search needs) (λ c. search needs) returns-2)

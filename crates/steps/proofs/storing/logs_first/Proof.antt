@@ -12,9 +12,6 @@ use Rattle.steps.proofs.StoreParts.{logs-clean, logs-other, undos-lengt
 use Rattle.steps.proofs.storing.logs_first.Statement.{statement}
 use Rattle.steps.proofs.storing.logs_first.Tie as tie
 
-state-of-requires : tie.Need-state-of-requires
-state-of-requires c κs = search needs
-
 -- the state of the word, and how many entries wait
 module _ (c : tie.After-state-of) (s : Fields) (states : s .lines .states ≡ c .before .args .states .now) (len : s .undos .len ≡ c .before .args .len)
     (below : c .before .args .word / 8 < s .words / 8) where
@@ -42,4 +39,4 @@ returns-3 c s states len below =
     logs-other (view s) (d .before .args .word) (d .before .args .same) (d .state-of .result) (kind d s states len below) (c .match .rest .1)
 
 pub logs-first-spec : {M : Type 1} → statement M
-logs-first-spec = tie.close (tie.spec state-of-requires returns returns-2 returns-3)
+logs-first-spec = tie.close (tie.spec (λ c κs. search needs) returns returns-2 returns-3)

@@ -41,15 +41,6 @@ whole-buffer c = search needs
 whole-keys : (c : tie.Start) → WholeRedos (c .args .t1 .redos)
 whole-keys c = search needs
 
-cast-line : tie.Need-cast-line
-cast-line c = search needs
-
-state-of-requires : tie.Need-state-of-requires
-state-of-requires c κs = search needs
-
-put-holder-requires : tie.Need-put-holder-requires
-put-holder-requires c κs = search needs
-
 returns : tie.Need-returns
 returns c mem was =
     let s = c .before .before .before .before .before .before .before .before .args .t1 in
@@ -60,9 +51,6 @@ returns c mem was =
     (eq-eqb (e .redo) (e .undo) (c .if1 .taken))
     (held-lines (s .words / 8) (s .lines) (e .word / 8) (e .thread) (c .before .before .put-holder .last .0) whole (omega arith)
     (c .before .before .put-holder .ensures))
-
-put-flag-requires : tie.Need-put-flag-requires
-put-flag-requires c κs = search needs
 
 -- another value comes, and the line is claimed
 module _ (c : tie.After-put-flag) where
@@ -124,9 +112,6 @@ module _ (c : tie.After-put-flag) where
       none-logged (view claimed) (start .args .count)
       (start .pre .1 .1 ∙ sym (logs-other (view s) (e .word) (eqb (e .redo) (e .undo)) _ kind ne))
 
-mark-logged-requires : tie.Need-mark-logged-requires
-mark-logged-requires c κs = search needs
-
 -- at most one entry is logged first, and no more than wait
 few-first : (here : tie.After-put-flag) → (start here .args .count ≤ 1) × (start here .args .count ≤ s here .undos .len)
 few-first here =
@@ -183,18 +168,6 @@ module _ (c : tie.After-mark-logged) where
       (differs here) (kind here) (c .before .before .before .before .match .keys1) (p .1 .1) (omega arith) in
       (omega arith, (omega arith, omega arith))
 
-push-thread-requires : tie.Need-push-thread-requires
-push-thread-requires c κs = search needs
-
-push-word-requires : tie.Need-push-word-requires
-push-word-requires c κs = search needs
-
-push-value-requires : tie.Need-push-value-requires
-push-value-requires c κs = search needs
-
-push-value-requires-2 : tie.Need-push-value-requires-2
-push-value-requires-2 c κs = search needs
-
 sub-state : tie.Need-sub-state
 sub-state c = few-first (here (c .before .before .before .before .before .before .before .before)) .1
 
@@ -208,35 +181,11 @@ add-state-2 c =
     let p = start (here m) .pre in
     omega arith
 
-mark-requires : tie.Need-mark-requires
-mark-requires c κs = search needs
-
-find-requires : tie.Need-find-requires
-find-requires c κs = search needs
-
-remove-threads-requires : tie.Need-remove-threads-requires
-remove-threads-requires c κs = search needs
-
-remove-words-requires : tie.Need-remove-words-requires
-remove-words-requires c κs = search needs
-
-remove-values-requires : tie.Need-remove-values-requires
-remove-values-requires c κs = search needs
-
-sub-state-2 : tie.Need-sub-state-2
-sub-state-2 c = search needs
-
-find-requires-2 : tie.Need-find-requires-2
-find-requires-2 c κs = search needs
-
 put-value-requires : tie.Need-put-value-requires
 put-value-requires c κs =
     let p = start (c .before .before .before .before .before .before .before) .pre in
     let at = c .before .if3 .taken in
     omega arith
-
-mark-requires-2 : tie.Need-mark-requires-2
-mark-requires-2 c κs = search needs
 
 -- a Clean word has its first entry, and is Dirty
 module _ (c : tie.After-mark) where
@@ -378,28 +327,28 @@ pub next-state-spec : {M : Type 1} → statement M
 next-state-spec =
     tie.close
     (tie.spec
-    cast-line
-    state-of-requires
-    put-holder-requires
+    (λ c. search needs)
+    (λ c κs. search needs)
+    (λ c κs. search needs)
     returns
-    put-flag-requires
-    mark-logged-requires
-    push-thread-requires
-    push-word-requires
-    push-value-requires
-    push-value-requires-2
+    (λ c κs. search needs)
+    (λ c κs. search needs)
+    (λ c κs. search needs)
+    (λ c κs. search needs)
+    (λ c κs. search needs)
+    (λ c κs. search needs)
     sub-state
     add-state
     add-state-2
-    mark-requires
-    find-requires
-    remove-threads-requires
-    remove-words-requires
-    remove-values-requires
-    sub-state-2
-    find-requires-2
+    (λ c κs. search needs)
+    (λ c κs. search needs)
+    (λ c κs. search needs)
+    (λ c κs. search needs)
+    (λ c κs. search needs)
+    (λ c. search needs)
+    (λ c κs. search needs)
     put-value-requires
-    mark-requires-2
+    (λ c κs. search needs)
     returns-2
     returns-3
     returns-4

@@ -4,15 +4,9 @@ use Rattle.model.specs.Refusals.{numberOf}
 use Rattle.steps.proofs.storing.place_refusal.Statement.{statement}
 use Rattle.steps.proofs.storing.place_refusal.Tie as tie
 
-refuse-requires : tie.Need-refuse-requires
-refuse-requires c κs = search needs
-
-refuse-requires-2 : tie.Need-refuse-requires-2
-refuse-requires-2 c κs = search needs
-
 returns : tie.Need-returns
 unfolding numberOf
 returns c m width = simp (c .refuse2 .ensures, c .before .refuse .ensures, width)
 
 pub place-refusal-spec : {M : Type 1} → statement M
-place-refusal-spec = tie.close (tie.spec refuse-requires refuse-requires-2 returns)
+place-refusal-spec = tie.close (tie.spec (λ c κs. search needs) (λ c κs. search needs) returns)

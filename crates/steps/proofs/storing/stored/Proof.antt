@@ -28,12 +28,6 @@ use Rattle.steps.proofs.storing.stored.Tie as tie
 abbrev lent : tie.Start → Memory
 lent c = memory (c .args .home .now) (c .args .working .now) (c .args .log .now)
 
-place-refusal-requires : tie.Need-place-refusal-requires
-place-refusal-requires c κs = search needs
-
-refused-requires : tie.Need-refused-requires
-refused-requires c κs = search needs
-
 -- where the store began
 abbrev begin : tie.After-place-refusal → tie.Start
 begin c = c .before .before .before .before
@@ -137,9 +131,6 @@ store-refusal-requires c κs =
     let few = count-few c in
     (clauses .order, (clauses .span, (clauses .tail, few)))
 
-refused-requires-2 : tie.Need-refused-requires-2
-refused-requires-2 c κs = search needs
-
 -- the late rows decide then
 module _ (c : tie.After-store-refusal) where
   abbrev begun : tie.Start
@@ -167,9 +158,6 @@ returns-2 c =
     refused-way (store (a .thread) (a .word) (a .value)) (a .supply) (a .state) (lent (begun late)) (begun late .pre .1)
     (late .store-refusal .result) (late-here late) (c .before .if2 .taken) refl
     (c .refused2 .result) (c .refused2 .ensures)
-
-append-oldest-requires : tie.Need-append-oldest-requires
-append-oldest-requires c κs = search needs
 
 -- the same log and the same rest
 appended-as : {c n : ℕ} {before : List ℕ} {rs : List Record} (after log : List ℕ) (rest left : ℕ) → after ≡ log → rest ≡ left
@@ -221,12 +209,6 @@ mul-if4-2 c =
     let few = count-few (count c) in
     omega arith
 
-cut-requires : tie.Need-cut-requires
-cut-requires c κs = search needs
-
-same-length : tie.Need-same-length
-same-length c = search needs
-
 same-length-2 : tie.Need-same-length-2
 same-length-2 c = appended-length (logged (c .before .before .before .before .before))
 
@@ -238,9 +220,6 @@ returns-3 c =
     let cleared = c .before .before .cut in
     append-cut (appends here) (a .supply) (count here .logs-first .result) (cleared .result) (cleared .last .0) (made .log) (made .left) (counted here)
     (c .before .before .before .before .if4 .taken) (logged here) (cleared .ensures .0) (cleared .ensures .1)
-
-mul-working : tie.Need-mul-working
-mul-working c = search needs
 
 slice-write-working : tie.Need-slice-write-working
 slice-write-working c =
@@ -262,9 +241,6 @@ next-state-requires c κs =
       ((k .word, (k .width .most, k .width .whole)), count-here (count (c .before))),
     )
 
-same-length-3 : tie.Need-same-length-3
-same-length-3 c = search needs
-
 same-length-4 : tie.Need-same-length-4
 same-length-4 c = appended-length (logged (c .before .before))
 
@@ -281,8 +257,8 @@ pub stored-spec : {M : Type 1} → statement M
 stored-spec =
     tie.close
     (tie.spec
-    place-refusal-requires
-    refused-requires
+    (λ c κs. search needs)
+    (λ c κs. search needs)
     returns
     cast-t23
     cast-t24
@@ -292,17 +268,17 @@ stored-spec =
     held-by-another-requires
     logs-first-requires
     store-refusal-requires
-    refused-requires-2
+    (λ c κs. search needs)
     returns-2
-    append-oldest-requires
+    (λ c κs. search needs)
     mul-if4-2
-    cut-requires
-    same-length
+    (λ c κs. search needs)
+    (λ c. search needs)
     same-length-2
     returns-3
-    mul-working
+    (λ c. search needs)
     slice-write-working
     next-state-requires
-    same-length-3
+    (λ c. search needs)
     same-length-4
     returns-4)

@@ -10,12 +10,6 @@ use borrow.Author.Needs.{needs}
 use Rattle.steps.proofs.words.holder_of.Statement.{statement}
 use Rattle.steps.proofs.words.holder_of.Tie as tie
 
-cast-at : tie.Need-cast-at
-cast-at c = search needs
-
-element-copy-out-result : tie.Need-element-copy-out-result
-element-copy-out-result c = search needs
-
 returns : tie.Need-returns
 unfolding holderIn
 returns c ls same n below =
@@ -23,4 +17,4 @@ returns c ls same n below =
     ap (λ (xs : List ℕ). getD xs (w / 8) 0) (sym same) ∙ ap (λ (l : Line). l .holder) (line-in-use n ls (w / 8) below)
 
 pub holder-of-spec : {M : Type 1} → statement M
-holder-of-spec = tie.close (tie.spec cast-at element-copy-out-result returns)
+holder-of-spec = tie.close (tie.spec (λ c. search needs) (λ c. search needs) returns)

@@ -11,21 +11,6 @@ use borrow.Author.Needs.{needs}
 use Rattle.steps.proofs.words.state_of.Statement.{statement}
 use Rattle.steps.proofs.words.state_of.Tie as tie
 
-cast-at : tie.Need-cast-at
-cast-at c = search needs
-
-mul-state-at : tie.Need-mul-state-at
-mul-state-at c = search needs
-
-element-copy-out-state-at : tie.Need-element-copy-out-state-at
-element-copy-out-state-at c = search needs
-
-cast-state-at : tie.Need-cast-state-at
-cast-state-at c = search needs
-
-state-at-requires : tie.Need-state-at-requires
-state-at-requires c κs = search needs
-
 returns : tie.Need-returns
 unfolding stateIn
 returns c ls same n below =
@@ -35,4 +20,4 @@ returns c ls same n below =
     ∙ ap (λ (l : Line). stateAt (l .states) (w % 8)) (line-in-use n ls (w / 8) below)
 
 pub state-of-spec : {M : Type 1} → statement M
-state-of-spec = tie.close (tie.spec cast-at mul-state-at element-copy-out-state-at cast-state-at state-at-requires returns)
+state-of-spec = tie.close (tie.spec (λ c. search needs) (λ c. search needs) (λ c. search needs) (λ c. search needs) (λ c κs. search needs) returns)

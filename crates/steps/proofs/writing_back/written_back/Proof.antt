@@ -41,12 +41,6 @@ number c =
 none : (c : tie.Else1) → numberOf (lineRows (view (start (c .before) .args .state)) (start (c .before) .args .line)) ≡ 0
 none c = sym (number (c .before)) ∙ c .if1 .left
 
-line-refusal-requires : tie.Need-line-refusal-requires
-line-refusal-requires c κs = search needs
-
-refused-requires : tie.Need-refused-requires
-refused-requires c κs = search needs
-
 returns : tie.Need-returns
 returns c =
     let refused = c .before .before in
@@ -54,18 +48,6 @@ returns c =
     refused-way (writeBack (a .line)) (a .supply) (a .state) (lent (start refused)) (start refused .pre .1) (refused .line-refusal .result)
     (number refused) (c .before .if1 .taken) refl
     (c .refused .result) (c .refused .ensures)
-
-store-line-requires : tie.Need-store-line-requires
-store-line-requires c κs = search needs
-
-cut-requires : tie.Need-cut-requires
-cut-requires c κs = search needs
-
-same-length : tie.Need-same-length
-same-length c = search needs
-
-same-length-2 : tie.Need-same-length-2
-same-length-2 c = search needs
 
 returns-2 : tie.Need-returns-2
 returns-2 c =
@@ -84,12 +66,6 @@ put-flag-requires c κs =
     let f = write-fit (s .args .line) (s .args .supply) (s .args .state) (lent s) (s .pre .1) (none began) in
     omega arith
 
-same-length-3 : tie.Need-same-length-3
-same-length-3 c = search needs
-
-same-length-4 : tie.Need-same-length-4
-same-length-4 c = search needs
-
 returns-3 : tie.Need-returns-3
 returns-3 c =
     let enough = c .before .before .before in
@@ -105,15 +81,15 @@ pub written-back-spec : {M : Type 1} → statement M
 written-back-spec =
     tie.close
     (tie.spec
-    line-refusal-requires
-    refused-requires
+    (λ c κs. search needs)
+    (λ c κs. search needs)
     returns
-    store-line-requires
-    cut-requires
-    same-length
-    same-length-2
+    (λ c κs. search needs)
+    (λ c κs. search needs)
+    (λ c. search needs)
+    (λ c. search needs)
     returns-2
     put-flag-requires
-    same-length-3
-    same-length-4
+    (λ c. search needs)
+    (λ c. search needs)
     returns-3)

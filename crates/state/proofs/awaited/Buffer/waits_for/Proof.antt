@@ -8,9 +8,6 @@ use Rattle.state.proofs.awaited.Buffer.waits_for.Tie as tie
 enum-told : tie.Need-enum-told
 enum-told c = search needs
 
-enum-told-2 : tie.Need-enum-told-2
-enum-told-2 c = search needs
-
 returns : tie.Need-returns
 returns c = rw (c .before .enum-told .given .1, c .match2 .keys1)
 
@@ -24,4 +21,4 @@ returns-4 : tie.Need-returns-4
 returns-4 c = rw (c .before .enum-told2 .given .1, ne-eqb (c .before .before .before .args .state) Clean (c .match3 .rest .1))
 
 pub waits-for-spec : {M : Type 1} → statement M
-waits-for-spec = tie.close (tie.spec enum-told enum-told-2 returns returns-2 returns-3 returns-4)
+waits-for-spec = tie.close (tie.spec enum-told (λ c. search needs) returns returns-2 returns-3 returns-4)

@@ -1,5 +1,5 @@
 // The changes of the cases 13 to 29: they "change the state and nothing else".
-use crate::disturbing::Trouble;
+use crate::disturbing::Disturbance;
 use crate::numbers::MAX;
 use crate::numbers::either;
 use crate::numbers::less;
@@ -147,7 +147,7 @@ fn thread_of(case: u64, b: u64) -> u8 {
 }
 
 // The cases 24 to 26, and 27 to 29, of a buffer that is not empty
-fn entries(keys: Keys, t: Trouble, w: u64) -> Keys {
+fn entries(keys: Keys, t: Disturbance, w: u64) -> Keys {
     let e = rest(t.a, keys.len as u64);
     if t.case % 3 == 1 {
         with_word(keys, e, t.b, w)
@@ -157,7 +157,7 @@ fn entries(keys: Keys, t: Trouble, w: u64) -> Keys {
 }
 
 // "the holder of line l", in the cases 26 and 29
-fn holder(mut lines: Lines, keys: Keys, t: Trouble) -> Lines {
+fn holder(mut lines: Lines, keys: Keys, t: Disturbance) -> Lines {
     let e = rest(t.a, keys.len as u64);
     let word = keys.words[(e % 32) as usize];
     if t.case % 3 == 2 {
@@ -167,7 +167,7 @@ fn holder(mut lines: Lines, keys: Keys, t: Trouble) -> Lines {
 }
 
 // The cases 24 to 26
-fn undos(mut state: Fields, t: Trouble, w: u64) -> Fields {
+fn undos(mut state: Fields, t: Disturbance, w: u64) -> Fields {
     let buffer = state.undos;
     let lines = state.lines;
     if (buffer.len == 0) | ((t.case < 24) | (t.case > 26)) {
@@ -182,7 +182,7 @@ fn undos(mut state: Fields, t: Trouble, w: u64) -> Fields {
 }
 
 // The cases 27 to 29
-fn redos(mut state: Fields, t: Trouble, w: u64) -> Fields {
+fn redos(mut state: Fields, t: Disturbance, w: u64) -> Fields {
     let mut buffer = state.redos;
     let lines = state.lines;
     if (buffer.len == 0) | (t.case < 27) {
@@ -201,7 +201,7 @@ fn redos(mut state: Fields, t: Trouble, w: u64) -> Fields {
 }
 
 // Each of them changes the state in its own cases.
-pub(crate) fn changed(state: Fields, t: Trouble, plan: Plan) -> Fields {
+pub(crate) fn changed(state: Fields, t: Disturbance, plan: Plan) -> Fields {
     if (t.case < 13) | (t.case > 29) {
         return state;
     }

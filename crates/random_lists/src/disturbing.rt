@@ -26,7 +26,7 @@ const NONE: u64 = 30;
 const NO_PATCH: u64 = MAX;
 
 // `forced`, `case`, `a` and `b` are those of this step. The patch is (i, old, new). x is the generator's.
-pub struct Trouble {
+pub struct Disturbance {
     pub x: u64,
     pub mend: u64,
     pub spoiled: bool,
@@ -39,8 +39,8 @@ pub struct Trouble {
     pub new: u64,
 }
 
-pub(crate) fn no_trouble(x: u64) -> Trouble {
-    Trouble {
+pub(crate) fn undisturbed(x: u64) -> Disturbance {
+    Disturbance {
         x,
         mend: 1,
         spoiled: false,
@@ -55,7 +55,7 @@ pub(crate) fn no_trouble(x: u64) -> Trouble {
 }
 
 // "if spoiled, all log words become 0; otherwise, if there is a patch (i, old, new) and log word i is new, log word i becomes old"
-fn put_back(log: &mut [u64], t: Trouble) {
+fn put_back(log: &mut [u64], t: Disturbance) {
     let mut at = 0;
     while at < log.len() {
         let word = log[at];
@@ -65,9 +65,9 @@ fn put_back(log: &mut [u64], t: Trouble) {
     }
 }
 
-impl Trouble {
+impl Disturbance {
     // "A. Forced." and "B. Disturbance.", without the changes. No x is used up where nothing may be drawn.
-    pub(crate) fn next(mut self, plan: Plan, kind: u64) -> Trouble {
+    pub(crate) fn next(mut self, plan: Plan, kind: u64) -> Disturbance {
         let forced = self.mend == 1;
         let no_line = (plan.profile == 6) & (kind != SET_DOWN);
         let no_record = (plan.profile == 7) & (kind != DELETE);
@@ -85,7 +85,7 @@ impl Trouble {
     }
 
     // The case, a and b
-    fn with_case(mut self, first: u64, cases: u64) -> Trouble {
+    fn with_case(mut self, first: u64, cases: u64) -> Disturbance {
         let whole = self.mend == 0;
         let case = draw_from(either(whole, first, 0), self.x, either(whole, cases, 5));
         let a = raw(case.x);
@@ -101,7 +101,7 @@ impl Trouble {
     }
 
     // Part A, of the log
-    fn mended(mut self, log: &mut [u64]) -> Trouble {
+    fn mended(mut self, log: &mut [u64]) -> Disturbance {
         if !self.forced {
             return self;
         }
@@ -140,7 +140,7 @@ impl Trouble {
     }
 
     // The changes of the log: "one log word i from old to new". `head` and `tail` are those of the state.
-    pub(crate) fn patched(self, log: &mut [u64], l: u64, head: u64, tail: u64) -> Trouble {
+    pub(crate) fn patched(self, log: &mut [u64], l: u64, head: u64, tail: u64) -> Disturbance {
         let mut next = self.mended(log);
         if (next.case < 5) | (next.case > 12) {
             return next;
@@ -160,7 +160,7 @@ impl Trouble {
     }
 
     // "F. Afterwards."
-    pub(crate) fn after(mut self, x: u64, k: u64, answer: u64) -> Trouble {
+    pub(crate) fn after(mut self, x: u64, k: u64, answer: u64) -> Disturbance {
         let damaged = (answer == HEAD) | (answer == DAMAGED);
         let strayed = (k == RECOVER) & ((answer != DONE) | (self.case <= 4));
         let breaks = (self.mend == 0) & ((answer == CUT) | strayed);

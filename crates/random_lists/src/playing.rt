@@ -4,8 +4,8 @@ use crate::choosing::Run;
 use crate::choosing::no_run;
 use crate::digest::fold;
 use crate::digest::fold_words;
-use crate::disturbing::Trouble;
-use crate::disturbing::no_trouble;
+use crate::disturbing::Disturbance;
+use crate::disturbing::undisturbed;
 use crate::generator::seeded;
 use crate::making::lent_in;
 use crate::making::made;
@@ -36,69 +36,69 @@ impl Score {
 }
 
 // A list under way: what was drawn for it, the state, the variables, the digest, and the last answer
-struct Game {
+struct UnderWay {
     plan: Plan,
     state: State,
-    trouble: Trouble,
+    disturbance: Disturbance,
     run: Run,
     digest: u64,
     answer: u64,
 }
 
-fn fresh(plan: Plan, x: u64) -> Game {
-    Game {
+fn fresh(plan: Plan, x: u64) -> UnderWay {
+    UnderWay {
         plan,
         state: State::lost(),
-        trouble: no_trouble(x),
+        disturbance: undisturbed(x),
         run: no_run(),
         digest: 0,
         answer: 0,
     }
 }
 
-impl Game {
+impl UnderWay {
     // Parts A to D, without the changes
-    fn chosen(mut self) -> Game {
+    fn chosen(mut self) -> UnderWay {
         let plan = self.plan;
-        let old = self.trouble;
+        let old = self.disturbance;
         let before = self.run;
-        let trouble = old.next(plan, before.kind);
-        let turned = before.turned(trouble.x, plan, trouble.forced, trouble.case);
+        let disturbance = old.next(plan, before.kind);
+        let turned = before.turned(disturbance.x, plan, disturbance.forced, disturbance.case);
         let run = turned.given(plan);
-        self.trouble = trouble;
+        self.disturbance = disturbance;
         self.run = run;
         self
     }
 
     // The changes. Where there are any, the whole log is lent.
-    fn disturbed(mut self, log: &mut [u64]) -> Game {
+    fn disturbed(mut self, log: &mut [u64]) -> UnderWay {
         let plan = self.plan;
         let was = self.state;
         let fields = was.fields;
-        let old = self.trouble;
-        let trouble = old.patched(log, plan.l, fields.head, fields.tail);
-        let next = changed(fields, trouble, plan);
-        self.trouble = trouble;
+        let old = self.disturbance;
+        let disturbance = old.patched(log, plan.l, fields.head, fields.tail);
+        let next = changed(fields, disturbance, plan);
+        self.disturbance = disturbance;
         let state = State { fields: next };
         self.state = state;
         self
     }
 
     // Part F, and of part G the answer and the count left
-    fn after(mut self, r: Answer) -> Game {
+    fn after(mut self, r: Answer) -> UnderWay {
         let run = self.run;
-        let old = self.trouble;
+        let old = self.disturbance;
         let next = r.state;
-        let trouble = old.after(run.x, run.k, r.answer);
+        let disturbance = old.after(run.x, run.k, r.answer);
         self.state = next;
-        self.trouble = trouble;
+        self.disturbance = disturbance;
         self.answer = r.answer;
         self.digest = fold(fold(self.digest, r.answer), r.left);
         self
     }
 
     // The changes, part E and part F
-    fn stepped(self, home: &mut [u64], working: &mut [u64], log: &mut [u64]) -> Game {
+    fn stepped(self, home: &mut [u64], working: &mut [u64], log: &mut [u64]) -> UnderWay {
         let game = self.disturbed(log);
         let r = made(game.state, game.run, home, working, log);
         game.after(r)
@@ -111,7 +111,7 @@ impl Game {
         home: &[u64; 512],
         working: &[u64; 512],
         log: &[u64; 3073],
-    ) -> Game {
+    ) -> UnderWay {
         let plan = self.plan;
         let small = (plan.w < 512) & (plan.l < 1024);
         if (small | (self.answer == CUT)) | ((self.run.k == RECOVER) | last) {
@@ -125,7 +125,7 @@ impl Game {
 
 // "This is done `steps` times."
 fn play(
-    start: Game,
+    start: UnderWay,
     before: Score,
     mut home: [u64; 512],
     mut working: [u64; 512],
@@ -137,7 +137,7 @@ fn play(
     while left > 0 {
         left -= 1;
         game = game.chosen();
-        let lent = lent_in(game.trouble.case, game.plan.w, game.plan.l);
+        let lent = lent_in(game.disturbance.case, game.plan.w, game.plan.l);
         let h = lent.home;
         let w = lent.working;
         let l = lent.log;

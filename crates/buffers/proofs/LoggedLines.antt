@@ -12,7 +12,7 @@ use Rattle.parts.proofs.Oldest.{take-more}
 use Rattle.model.specs.Machine.{marked, allLogged}
 use Rattle.lines.specs.declared.Lines.{Lines}
 use Rattle.lines.specs.Lines.{firstLines}
-use Rattle.lines.specs.Walks.{allMarked}
+use Rattle.lines.specs.Walks.{statesLogged}
 use Rattle.lines.proofs.FirstLines.{WholeLines}
 use Rattle.lines.proofs.WordStates.{withStates, first-marked, length-marked, marked-more}
 use Rattle.buffers.specs.declared.UndoBuffer.{UndoBuffer}
@@ -28,7 +28,7 @@ logged-last (d ∷ es) e ls = logged-last es e (marked URLog (d .word) ls)
 -- an undo+redo buffer with its places, and lines; `logged k` are the lines' states after the k oldest entries are logged
 module _ (b : UndoBuffer) (ls : Lines) (places : length (b .words) ≡ 16) (short : b .len ≤ 16) (whole : WholeLines ls) where
   abbrev logged : ℕ → List ℕ
-  logged k = allMarked (take k (b .words)) (ls .states)
+  logged k = statesLogged (take k (b .words)) (ls .states)
 
   -- they take the 64 places
   pub whole-logged : (k : ℕ) → WholeLines (withStates (logged k) ls)
@@ -38,7 +38,7 @@ module _ (b : UndoBuffer) (ls : Lines) (places : length (b .words) ≡ 16) (shor
   -- and are those of the lines that the model has
   pub logged-lines : (k n : ℕ) → k ≤ b .len → n ≤ 64
       → firstLines n (withStates (logged k) ls) ≡ allLogged (take k (undosWaiting b)) (firstLines n ls)
-  unfolding allMarked allLogged
+  unfolding statesLogged allLogged
   logged-lines zero n h m = refl
   logged-lines (suc k) n h m =
       rw add-one at

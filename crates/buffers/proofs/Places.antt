@@ -12,7 +12,7 @@ use lib.Seq.{take-all, drop-cons, getD-set-same, getD-set-other, set-out}
 use Rattle.parts.specs.declared.Entry.{Entry}
 use Rattle.parts.specs.Listed.{listed}
 use Rattle.buffers.specs.Waiting.{entryOf, waitingOf}
-use Rattle.parts.specs.Entries.{discarded, withRedo, amended, indexOf}
+use Rattle.parts.specs.Entries.{discarded, redoAs, amended, indexOf}
 use Rattle.parts.proofs.Listed.{length-listed, getD-listed, set-listed}
 
 -- a word, and the n entries of a buffer
@@ -68,14 +68,14 @@ discarded-none w n f at h e =
     ∙ discarded-at w (listed n f) at e
 
 -- amended is the entry at the word's place
-amended-place : (w v : ℕ) (es : List Entry) (d : Entry) → amended w v es ≡ set es (indexOf w es) (withRedo v (getD es (indexOf w es) d))
+amended-place : (w v : ℕ) (es : List Entry) (d : Entry) → amended w v es ≡ set es (indexOf w es) (redoAs v (getD es (indexOf w es) d))
 unfolding indexOf amended
 amended-place w v [] d = refl
 amended-place w v (e ∷ es) d =
     elim (eqb (e .word) w) as
     (λ (t : Bool).
     let p : ℕ = cond t 0 (suc (indexOf w es)) in
-    cond t (withRedo v e ∷ es) (e ∷ amended w v es) ≡ set (e ∷ es) p (withRedo v (getD (e ∷ es) p d)))
+    cond t (redoAs v e ∷ es) (e ∷ amended w v es) ≡ set (e ∷ es) p (redoAs v (getD (e ∷ es) p d)))
     [ true ↦ refl | false ↦ ap (λ (r : List Entry). e ∷ r) (amended-place w v es d) ]
 
 -- of a word that has an entry, the redo at its place is replaced
@@ -86,11 +86,11 @@ amended-at w v len threads words undos redos at h p e =
     let f = entryOf threads words undos redos in
     let es : List Entry = listed len f in
     let d : Entry = f at in
-    sym (set-listed len f (entryOf threads words undos (set redos at v)) at (withRedo v d)
-    (λ l. ap (λ (r : ℕ). withRedo r d) (getD-set-same redos at v 0 (omega arith)))
-    (λ k ne. ap (λ (r : ℕ). withRedo r (f k)) (getD-set-other redos at k v 0 ne)))
-    ∙ ap (λ (x : Entry). set es at (withRedo v x)) (sym (getD-listed len f at d p))
-    ∙ ap (λ (n : ℕ). set es n (withRedo v (getD es n d))) e
+    sym (set-listed len f (entryOf threads words undos (set redos at v)) at (redoAs v d)
+    (λ l. ap (λ (r : ℕ). redoAs r d) (getD-set-same redos at v 0 (omega arith)))
+    (λ k ne. ap (λ (r : ℕ). redoAs r (f k)) (getD-set-other redos at k v 0 ne)))
+    ∙ ap (λ (x : Entry). set es at (redoAs v x)) (sym (getD-listed len f at d p))
+    ∙ ap (λ (n : ℕ). set es n (redoAs v (getD es n d))) e
     ∙ sym (amended-place w v es d)
 
 -- of a word that has none, nothing is
@@ -99,4 +99,4 @@ amended-none w v n f at h e =
     let l : length (listed n f) ≤ indexOf w (listed n f) = rw length-listed (rw e at h) in
     let d : Entry = f at in
     sym (amended-place w v (listed n f) d
-    ∙ set-out (listed n f) (indexOf w (listed n f)) (withRedo v (getD (listed n f) (indexOf w (listed n f)) d)) l)
+    ∙ set-out (listed n f) (indexOf w (listed n f)) (redoAs v (getD (listed n f) (indexOf w (listed n f)) d)) l)

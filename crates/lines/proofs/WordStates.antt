@@ -11,7 +11,7 @@ use Rattle.parts.specs.States.{withState, URLog}
 use Rattle.lines.proofs.FirstLines.{WholeLines}
 use Rattle.model.specs.Machine.{statesAs, marked}
 use Rattle.lines.proofs.LinesInUse.{first-changed}
-use Rattle.lines.specs.Walks.{allMarked}
+use Rattle.lines.specs.Walks.{statesLogged}
 
 -- the lines with other states
 abbrev pub withStates : List ℕ → Lines → Lines
@@ -34,24 +34,24 @@ first-marked n ls w s whole h =
     ∙ first-changed (λ line. statesAs (withState (line .states) (w % 8) s) line) n ls (w / 8) whole h
 
 -- there are as many states after words were marked
-pub length-marked : (ws ss : List ℕ) → length (allMarked ws ss) ≡ length ss
-unfolding allMarked
+pub length-marked : (ws ss : List ℕ) → length (statesLogged ws ss) ≡ length ss
+unfolding statesLogged
 length-marked [] ss = refl
 length-marked (w ∷ ws) ss = length-marked ws (replaced ss w URLog) ∙ simp length-set
 
 -- and so do the lines whose words were
-pub whole-marked : (ws : List ℕ) (ls : Lines) (ss : List ℕ) (k : ℕ) → WholeLines ls → ss ≡ allMarked (take k ws) (ls .states)
+pub whole-marked : (ws : List ℕ) (ls : Lines) (ss : List ℕ) (k : ℕ) → WholeLines ls → ss ≡ statesLogged (take k ws) (ls .states)
     → WholeLines (withStates ss ls)
 whole-marked ws ls ss k w e =
     record { holders = w .holders; dirty = w .dirty; states = ap length e ∙ length-marked (take k ws) (ls .states) ∙ w .states }
 
 -- one word more is marked last
-marked-last : (ws : List ℕ) (w : ℕ) (ss : List ℕ) → allMarked (ws ++ (w ∷ [])) ss ≡ replaced (allMarked ws ss) w URLog
-unfolding allMarked
+marked-last : (ws : List ℕ) (w : ℕ) (ss : List ℕ) → statesLogged (ws ++ (w ∷ [])) ss ≡ replaced (statesLogged ws ss) w URLog
+unfolding statesLogged
 marked-last [] w ss = refl
 marked-last (v ∷ ws) w ss = marked-last ws w (replaced ss v URLog)
 
 -- the same of the first words of a list
 pub marked-more : (ws : List ℕ) (i : ℕ) (ss : List ℕ) → i < length ws
-    → allMarked (take (i + 1) ws) ss ≡ replaced (allMarked (take i ws) ss) (getD ws i 0) URLog
+    → statesLogged (take (i + 1) ws) ss ≡ replaced (statesLogged (take i ws) ss) (getD ws i 0) URLog
 marked-more ws i ss h = rw (add-one, take-suc ws i 0 h) (marked-last (take i ws) (getD ws i 0) ss)

@@ -1,5 +1,5 @@
 -- What the walks over the lines, and over the words of a line, hand back on every input.
-use Prim.Native.Nat.{ℕ, zero, suc, _+_, _-_, _*_, _/_, _%_}
+use Prim.Native.Nat.{ℕ, zero, suc, _+_, _*_, _/_, _%_}
 use mathlib.Core.Bool.{cond}
 use mathlib.Core.List.{List, [], _∷_}
 use lib.Dec.{eqb, leb}
@@ -11,9 +11,9 @@ use Rattle.model.specs.Lists.{keep, upTo}
 use Rattle.model.specs.Steps.{lineWrites}
 
 -- the states of all lines with these words URLog, one after the other
-unfoldable pub allMarked : List ℕ → List ℕ → List ℕ
-allMarked [] ss = ss
-allMarked (w ∷ ws) ss = allMarked ws (set ss (w / 8) (withState (getD ss (w / 8) 0) (w % 8) URLog))
+unfoldable pub statesLogged : List ℕ → List ℕ → List ℕ
+statesLogged [] ss = ss
+statesLogged (w ∷ ws) ss = statesLogged ws (set ss (w / 8) (withState (getD ss (w / 8) 0) (w % 8) URLog))
 
 -- the ULog words of a line, rising, by the line's states
 abbrev pub ulogWords : ℕ → List ℕ

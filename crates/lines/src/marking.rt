@@ -3,7 +3,7 @@ ghost use mathlib.Core.Path.{_≡_};
 ghost use Prim.Native.Nat.{_/_, _%_};
 ghost use lib.ListN.{length, getD, set, take};
 ghost use Rattle.parts.specs.States.{withState};
-ghost use Rattle.lines.specs.Walks.{allMarked};
+ghost use Rattle.lines.specs.Walks.{statesLogged};
 use crate::UR_LOG;
 use crate::numbers::least;
 
@@ -24,7 +24,7 @@ pub fn mark(states: &mut [u16; 64], word: u16, state: u64)
 // the entries.
 pub fn mark_logged(states: &mut [u16; 64], words: &[u16; 16], count: usize)
     ensures { λ _. ⌜ (length (now (states .entry)) ≡ 64 → length (now (words .entry)) ≡ 16 → now (states .exit)
-        ≡ allMarked (take count (now (words .entry))) (now (states .entry))) ⌝ }
+        ≡ statesLogged (take count (now (words .entry))) (now (states .entry))) ⌝ }
 {
     let end = least(count, 16);
     let mut i = 0;

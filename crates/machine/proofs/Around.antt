@@ -1,6 +1,5 @@
 -- A state around its fields: what is handed back as fields is handed back as a state.
-use Prim.Native.Nat.{ℕ}
-use mathlib.Core.Path.{_≡_, ap}
+use mathlib.Core.Path.{ap}
 use mathlib.Core.Bool.{Bool, true, false, cond}
 use Rattle.model.specs.Step.{Step, takesState}
 use Rattle.state.specs.declared.Fields.{Fields}

@@ -11,7 +11,7 @@ use lib.ListN.{length, drop}
 use Rattle.log.specs.Holding.{Every}
 use Rattle.parts.specs.declared.Entry.{Entry}
 use Rattle.parts.specs.Listed.{listed}
-use Rattle.parts.specs.Entries.{discarded, amended, withRedo}
+use Rattle.parts.specs.Entries.{discarded, amended, redoAs}
 use Rattle.model.specs.Lists.{keep, isEmpty}
 use Rattle.model.specs.Machine.{wordsOf}
 use Rattle.model.specs.Consistent.{entriesOf}
@@ -57,7 +57,7 @@ entries-amended w u v (e ∷ es) h =
     ]
 
 pub entries-amended-own : (w v : ℕ) (es : List Entry) (e : Entry) → entriesOf w es ≡ e ∷ []
-    → entriesOf w (amended w v es) ≡ withRedo v e ∷ []
+    → entriesOf w (amended w v es) ≡ redoAs v e ∷ []
 unfolding keep amended
 entries-amended-own w v [] e one = cc
 entries-amended-own w v (x ∷ es) e one =
@@ -79,7 +79,7 @@ pub length-amended : (w v : ℕ) (es : List Entry) → length (amended w v es) �
 unfolding amended
 length-amended w v [] = refl
 length-amended w v (e ∷ es) =
-    elim (eqb (e .word) w) as (λ (t : Bool). length (cond t (withRedo v e ∷ es) (e ∷ amended w v es)) ≡ suc (length es)) [
+    elim (eqb (e .word) w) as (λ (t : Bool). length (cond t (redoAs v e ∷ es) (e ∷ amended w v es)) ≡ suc (length es)) [
       | true ↦ refl
       | false ↦ ap suc (length-amended w v es)
     ]
@@ -93,12 +93,12 @@ every-discarded P w (e ∷ es) every =
       | false ↦ (every .0, every-discarded P w es (every .1))
     ]
 
-pub every-amended : (P : Entry → Type 0) (w v : ℕ) (es : List Entry) → ((e : Entry) → P e → P (withRedo v e)) → Every P es
+pub every-amended : (P : Entry → Type 0) (w v : ℕ) (es : List Entry) → ((e : Entry) → P e → P (redoAs v e)) → Every P es
     → Every P (amended w v es)
 unfolding amended
 every-amended P w v [] keeps every = tt
 every-amended P w v (e ∷ es) keeps every =
-    elim (eqb (e .word) w) as (λ (t : Bool). Every P (cond t (withRedo v e ∷ es) (e ∷ amended w v es))) [
+    elim (eqb (e .word) w) as (λ (t : Bool). Every P (cond t (redoAs v e ∷ es) (e ∷ amended w v es))) [
       | true ↦ (keeps e (every .0), every .1)
       | false ↦ (every .0, every-amended P w v es keeps (every .1))
     ]

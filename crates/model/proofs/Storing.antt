@@ -19,7 +19,7 @@ use Rattle.parts.specs.declared.Entry.{Entry}
 use Rattle.parts.specs.declared.Line.{Line}
 use Rattle.parts.specs.Lines.{nobody}
 use Rattle.parts.specs.States.{Clean, Dirty, URLog, ULog, stateAt}
-use Rattle.parts.specs.Entries.{withRedo}
+use Rattle.parts.specs.Entries.{redoAs}
 use Rattle.model.specs.Lists.{keep, isEmpty}
 use Rattle.model.specs.Machine.{Machine, Memory, withLines, isOpen, lineOf, stateIn, holderIn, dirtyIn, changed}
 use Rattle.model.specs.Machine.{marked, allLogged}
@@ -313,7 +313,7 @@ module _ (home working : List ℕ) (b : Book) (rs : List Record) (m : Machine) (
             })
             same-redos
             (λ calm. cc)
-            (State.changed (withRedo v e) c (entries-amended-own w v (m .buffers .undoRedo) e us) ds (own ∙ held) refl undo dirty))
+            (State.changed (redoAs v e) c (entries-amended-own w v (m .buffers .undoRedo) e us) ds (own ∙ held) refl undo dirty))
         | State.urlog c us ds undo new ↦ rw (same ∙ c)
             (rewritten (marks ULog (omega arith) .0) same-undos same-redos (λ calm. cc) (State.ulog (marks ULog (omega arith) .1) us ds undo))
         | State.ulog c us ds undo ↦ rw (same ∙ c) (rewritten same-lines same-undos same-redos (λ calm. cc) (State.ulog c us ds undo))

@@ -36,8 +36,8 @@ busy = 7
 abbrev pub held : ℕ
 held = 8
 
-abbrev pub pending : ℕ
-pending = 9
+abbrev pub pendingLine : ℕ
+pendingLine = 9
 
 abbrev pub full : ℕ
 full = 10

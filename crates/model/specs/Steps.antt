@@ -21,7 +21,7 @@ use Rattle.model.specs.Machine.{withUndoRedo, withRedo, isOpen, wordsOf,
 use Rattle.model.specs.Machine.{stateIn, holderIn, heldBy, dirtyAs}
 use Rattle.model.specs.Machine.{statesAs, changed, marked, wordsMarked, allLogged}
 use Rattle.model.specs.Verdict.{verdict}
-use Rattle.model.specs.Refusals.{busy, held, pending, nothing, damaged, needed, Row, row}
+use Rattle.model.specs.Refusals.{busy, held, pendingLine, nothing, damaged, needed, Row, row}
 use Rattle.model.specs.Refusals.{unknownThread, unknownWord, unknownLine, notOpen, isPending, noRoom}
 
 -- the records of waiting entries
@@ -116,7 +116,7 @@ evictRecords m mem i = redoRecords (lacking m mem i) m
 
 -- the rows of a step on a line that must not be pending
 abbrev pub lineRows : Machine → ℕ → List Row
-lineRows m i = unknownLine m i ∷ row (isPending m i) pending ∷ []
+lineRows m i = unknownLine m i ∷ row (isPending m i) pendingLine ∷ []
 
 -- "Set down a line": eviction. "all eight become Clean; holder and dirty flag stay."
 abbrev pub evictRows : Machine → Memory → ℕ → List Row

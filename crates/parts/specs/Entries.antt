@@ -10,13 +10,13 @@ unfoldable pub discarded : ℕ → List Entry → List Entry
 discarded w [] = []
 discarded w (e ∷ es) = cond (eqb (e .word) w) es (e ∷ discarded w es)
 
-abbrev pub withRedo : ℕ → Entry → Entry
-withRedo v e = record { thread = e .thread; word = e .word; undo = e .undo; redo = v }
+abbrev pub redoAs : ℕ → Entry → Entry
+redoAs v e = record { thread = e .thread; word = e .word; undo = e .undo; redo = v }
 
 -- "the entry's redo is replaced": that of the oldest entry of the word
 unfoldable pub amended : ℕ → ℕ → List Entry → List Entry
 amended w v [] = []
-amended w v (e ∷ es) = cond (eqb (e .word) w) (withRedo v e ∷ es) (e ∷ amended w v es)
+amended w v (e ∷ es) = cond (eqb (e .word) w) (redoAs v e ∷ es) (e ∷ amended w v es)
 
 -- the index of the oldest entry of a word; without one, the number of entries
 unfoldable pub indexOf : ℕ → List Entry → ℕ

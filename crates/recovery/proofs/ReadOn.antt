@@ -9,6 +9,7 @@ use Rattle.log.specs.declared.Record.the-variants.{Commit}
 use Rattle.log.specs.declared.Reading.{Reading}
 use Rattle.log.specs.declared.Reading.the-variants.{Good, Bad}
 use Rattle.log.specs.Region.{readBack, readFrom}
+use Rattle.log.specs.Layout.{threadOf}
 use Rattle.log.specs.Holding.{Valid}
 use Rattle.log.proofs.Searching.{read-none, read-next, read-valid}
 use Rattle.model.specs.Lists.{any}
@@ -60,3 +61,7 @@ valid-read words log n = valid-if words (readBack words log n) (read-valid words
 -- and so has the record
 pub valid-record : (words : ℕ) (x : Reading) (r s : Record) → ValidIf words x → x ≡ Good r → r ≡ s → Valid words s
 valid-record words x r s v e f = subst (Valid words) f (rw e at v)
+
+-- the thread of a record read back
+pub thread-read : (words n : ℕ) (log : List ℕ) {x : Reading} {r s : Record} → x ≡ readBack words log n → x ≡ Good r → r ≡ s → threadOf s < 8
+thread-read words n log {x} {r} {s} read e f = valid-record words x r s (rw read (valid-read words log n)) e f .thread

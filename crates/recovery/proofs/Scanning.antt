@@ -17,11 +17,11 @@ use Rattle.log.proofs.Searching.{search-ends, search-goes-on, read-none, read-l
 use Rattle.model.specs.Lists.{any}
 use Rattle.model.specs.Readings.{isBad}
 use Rattle.model.proofs.Records.{any-append}
-use Rattle.recovery.specs.Recovering.{closes, noted, Lasts, Scanned}
+use Rattle.recovery.specs.Recovering.{closes, commitNoted, Lasts, Scanned}
 use Rattle.recovery.proofs.ReadOn.{closed-read, closed-none}
 
 -- eight numbers stay eight
-size-noted : (n : ℕ) (x : Reading) (last : List ℕ) → length last ≡ 8 → length (noted n x last) ≡ 8
+size-noted : (n : ℕ) (x : Reading) (last : List ℕ) → length last ≡ 8 → length (commitNoted n x last) ≡ 8
 size-noted n (Good (UndoRedo t w u r)) last e = e
 size-noted n (Good (Redo t w r)) last e = e
 size-noted n (Good (Commit t)) last e = length-set last t n ∙ e
@@ -29,7 +29,7 @@ size-noted n Bad last e = e
 
 -- a commit is the last one of its thread, and any other record of none
 last-noted : (n : ℕ) (x : Reading) (last : List ℕ) → length last ≡ 8 → (t : ℕ) → t < 8
-    → getD (noted n x last) t 0 ≡ cond (closes t x) n (getD last t 0)
+    → getD (commitNoted n x last) t 0 ≡ cond (closes t x) n (getD last t 0)
 last-noted n (Good (UndoRedo s w u r)) last e t h = refl
 last-noted n (Good (Redo s w r)) last e t h = refl
 last-noted n (Good (Commit s)) last e t h =
@@ -104,7 +104,7 @@ module _ (words : ℕ) (log : List ℕ) (left tail : ℕ) (bad : Bool) (last : L
   last-new t h true = omega arith
   last-new t h false = s .small t h
 
-  lasts-more : Lasts words log (headOf log) (tail + 1) (noted tail (readBack words log tail) last)
+  lasts-more : Lasts words log (headOf log) (tail + 1) (commitNoted tail (readBack words log tail) last)
   lasts-more t i h lo hi =
       let x = readBack words log tail in
       let b = closes t x in
@@ -121,7 +121,7 @@ module _ (words : ℕ) (log : List ℕ) (left tail : ℕ) (bad : Bool) (last : L
 
   -- after one more is read
   pub sofar-more : 0 < left → isWritten log tail ≡ true
-      → Sofar words log (left - 1) (tail + 1) (bad || isBad (readBack words log tail)) (noted tail (readBack words log tail) last)
+      → Sofar words log (left - 1) (tail + 1) (bad || isBad (readBack words log tail)) (commitNoted tail (readBack words log tail) last)
   sofar-more some there =
       let x = readBack words log tail in
       let order = s .order in

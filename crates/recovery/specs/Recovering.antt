@@ -50,11 +50,11 @@ Lasts words log head tail last =
     (t n : ℕ) → t < 8 → head ≤ n → n < tail → closedBy last n t ≡ closed t (recordsFrom words log (n + 1) tail)
 
 -- the number of each thread's last commit, once record n is read
-abbrev pub noted : ℕ → Reading → List ℕ → List ℕ
-noted n (Good (UndoRedo t w u r)) last = last
-noted n (Good (Redo t w r)) last = last
-noted n (Good (Commit t)) last = set last t n
-noted n Bad last = last
+abbrev pub commitNoted : ℕ → Reading → List ℕ → List ℕ
+commitNoted n (Good (UndoRedo t w u r)) last = last
+commitNoted n (Good (Redo t w r)) last = last
+commitNoted n (Good (Commit t)) last = set last t n
+commitNoted n Bad last = last
 
 -- what is found after all are read
 pub record Scanned (words : ℕ) (log : List ℕ) (found : Found) : Type 0 where

@@ -2,7 +2,7 @@
 ghost use mathlib.Core.Path.{_≡_};
 ghost use Rattle.log.specs.Region.{readBack};
 ghost use Rattle.model.specs.Readings.{isBad};
-ghost use Rattle.recovery.specs.Recovering.{noted, Scanned};
+ghost use Rattle.recovery.specs.Recovering.{commitNoted, Scanned};
 use log::Reading;
 use log::Record;
 
@@ -17,7 +17,7 @@ pub struct Found {
 // Reads a record, and notes it if it is a commit. Hands back whether it is bad.
 fn note(last: &mut [u64; 8], log: &[u64], number: u64, words: u16) -> bool
     ensures { λ r. ⌜ r ≡ isBad (readBack words (now (log .entry)) number) ⌝ }
-    ensures { λ r. ⌜ now (last .exit) ≡ noted number (readBack words (now (log .entry)) number) (now (last .entry)) ⌝ }
+    ensures { λ r. ⌜ now (last .exit) ≡ commitNoted number (readBack words (now (log .entry)) number) (now (last .entry)) ⌝ }
 {
     let reading = log::read(log, number, words);
     match reading {

@@ -14,7 +14,7 @@ use Rattle.model.specs.Lists.{all}
 use Rattle.model.specs.Machine.{stateIn, holderIn, marked}
 use Rattle.model.proofs.Lists.{both-left, both-right}
 use Rattle.model.proofs.Lines.{state-marked, holder-marked, length-marked}
-use Rattle.state.specs.Linear.{waitsFor, eachWaits, allMarked, settledLine, undosWait, redosWait}
+use Rattle.state.specs.Linear.{waitsFor, eachWaits, allMarked, lineWithoutDirty, undosWait, redosWait}
 
 -- a second test counts only where the first passes
 and-under : (t x y : Bool) → (t ≡ true → x ≡ y) → (t && x) ≡ (t && y)
@@ -119,5 +119,5 @@ module _ (words : ℕ) where
       (λ t.
       f t
       ∙ redos-same rs (allMarked URLog ls us) ls wide
-      (undos-leave us ls wide (both-left (eachWaits Dirty URLog words ls us) (all settledLine (allMarked URLog ls us)) (sym e ∙ t))))
+      (undos-leave us ls wide (both-left (eachWaits Dirty URLog words ls us) (all lineWithoutDirty (allMarked URLog ls us)) (sym e ∙ t))))
       ∙ ap (λ (x : Bool). x && redosWait words ls rs) e

@@ -2,7 +2,7 @@
 pub mod HandedBack
 pub mod Lent
 pub mod Opened
-pub mod Settled
+pub mod NoneDirty
 pub mod Linear
 pub mod CleanWords
 pub mod Walking

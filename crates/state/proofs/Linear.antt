@@ -26,8 +26,8 @@ use Rattle.model.proofs.Core.{EntryOk}
 use Rattle.model.proofs.Consistency.{both, all-true, every-entry, entry-limits, WaitsFor, AllWait, all-in-state, all-alone, all-held}
 use Rattle.model.proofs.Fit.{Clauses, clauses, all-every}
 use Rattle.state.specs.StateOf.{linesLent, entriesLent, stateOf}
-use Rattle.state.specs.Linear.{inLimits, lineSound, waitsFor, eachWaits, allMarked, settledLine, undosWait, redosWait, linear}
-use Rattle.state.proofs.Settled.{none-dirty, none-dirty-test}
+use Rattle.state.specs.Linear.{inLimits, lineSound, waitsFor, eachWaits, allMarked, lineWithoutDirty, undosWait, redosWait, linear}
+use Rattle.state.proofs.NoneDirty.{none-dirty, none-dirty-test}
 
 -- ---- tests
 
@@ -284,17 +284,17 @@ every-of P [] d each = tt
 every-of P (x ∷ xs) d each = (each 0 (omega arith), every-of P xs d (λ i h. each (suc i) (omega arith)))
 
 -- the lines' test, word by word
-settled-words : (ls : List Line) → all settledLine ls ≡ true → (w : ℕ) → w / 8 < length ls → stateIn ls w ≡ Dirty → ⊥
+none-dirty-words : (ls : List Line) → all lineWithoutDirty ls ≡ true → (w : ℕ) → w / 8 < length ls → stateIn ls w ≡ Dirty → ⊥
 unfolding stateIn
-settled-words ls t w h d =
-    none-dirty 8 (lineOf ls (w / 8) .states) (every-at (λ line. settledLine line ≡ true) ls (all-every settledLine ls t) (w / 8) freeLine h) (w % 8)
+none-dirty-words ls t w h d =
+    none-dirty 8 (lineOf ls (w / 8) .states) (every-at (λ line. lineWithoutDirty line ≡ true) ls (all-every lineWithoutDirty ls t) (w / 8) freeLine h) (w % 8)
     (omega arith) d
 
-words-settled : (ls : List Line) → ((w : ℕ) → w / 8 < length ls → stateIn ls w ≡ Dirty → ⊥) → all settledLine ls ≡ true
+words-none-dirty : (ls : List Line) → ((w : ℕ) → w / 8 < length ls → stateIn ls w ≡ Dirty → ⊥) → all lineWithoutDirty ls ≡ true
 unfolding stateIn
-words-settled ls clean =
-    all-true (λ line. settledLine line ≡ true) settledLine ls (λ line e. e)
-    (every-of (λ line. settledLine line ≡ true) ls freeLine
+words-none-dirty ls clean =
+    all-true (λ line. lineWithoutDirty line ≡ true) lineWithoutDirty ls (λ line e. e)
+    (every-of (λ line. lineWithoutDirty line ≡ true) ls freeLine
     (λ i h.
     none-dirty-test 8 (lineOf ls i .states)
     (λ j b d.
@@ -333,22 +333,22 @@ module _ (words : ℕ) (ls : List Line) (es : List Entry) (wide : words ≡ 8 * 
   undos-each : undosWait words ls es ≡ true → Walkable Dirty words ls es × ((w : ℕ) → w < words → dirtyOnce w ≡ true)
   unfolding undosWait
   undos-each t =
-      let h = halves (eachWaits Dirty URLog words ls es) (all settledLine (allMarked URLog ls es)) t in
+      let h = halves (eachWaits Dirty URLog words ls es) (all lineWithoutDirty (allMarked URLog ls es)) t in
       let walk = test-walkable Dirty URLog words (omega arith) (λ e. absurd (omega arith)) es ls (omega arith) (h .0) in
       (walk, λ w b. each walk (h .1) w b (walk .once w))
     where
-      each : Walkable Dirty words ls es → all settledLine (allMarked URLog ls es) ≡ true → (w : ℕ) → w < words
+      each : Walkable Dirty words ls es → all lineWithoutDirty (allMarked URLog ls es) ≡ true → (w : ℕ) → w < words
           → Once Dirty (stateIn ls w) (entriesOf w es) → dirtyOnce w ≡ true
-      each walk settled w b (none e) =
+      each walk without w b (none e) =
           rw (ne-eqb (stateIn ls w) Dirty
-          (λ d. settled-words (allMarked URLog ls es) settled w (rw length-marks (omega arith)) (state-marks (walk .ok) w ∙ rw e d)))
-      each walk settled w b (one s l) = rw (s, l)
+          (λ d. none-dirty-words (allMarked URLog ls es) without w (rw length-marks (omega arith)) (state-marks (walk .ok) w ∙ rw e d)))
+      each walk without w b (one s l) = rw (s, l)
 
   each-undos : Walkable Dirty words ls es → ((w : ℕ) → w < words → dirtyOnce w ≡ true) → undosWait words ls es ≡ true
   unfolding undosWait
   each-undos walk once =
       both (walkable-test Dirty URLog words (omega arith) (λ e. absurd (omega arith)) es ls (omega arith) walk)
-      (words-settled (allMarked URLog ls es) (λ w h d. clean w (entriesOf w es) refl (rw length-marks at h) d))
+      (words-none-dirty (allMarked URLog ls es) (λ w h d. clean w (entriesOf w es) refl (rw length-marks at h) d))
     where
       clean : (w : ℕ) (r : List Entry) → entriesOf w es ≡ r → w / 8 < length ls → stateIn (allMarked URLog ls es) w ≡ Dirty → ⊥
       clean w [] e h d =

@@ -18,7 +18,7 @@ use Rattle.parts.proofs.Listed.{length-listed, getD-listed, set-listed}
 use Rattle.model.specs.Lists.{all}
 use Rattle.model.specs.Machine.{lineOf, stateIn, holderIn, statesAs, changed, marked}
 use Rattle.state.specs.StateOf.{bareLine, bareEntry, linesLent, entriesLent}
-use Rattle.state.specs.Linear.{waitsFor, eachWaits, allMarked, settledLine, undosWait, Walked}
+use Rattle.state.specs.Linear.{waitsFor, eachWaits, allMarked, lineWithoutDirty, undosWait, Walked}
 
 -- a test of all elements, one more of them last
 pub all-last : {A : Type 0} (f : A → Bool) (xs : List A) (x : A) → all f (xs ++ (x ∷ [])) ≡ (all f xs && f x)
@@ -188,8 +188,8 @@ module _ (count : ℕ) (threads targets : List ℕ) where
 
 -- the undo+redo entries walked over, and then the states looked at
 pub undos-walked : (words : ℕ) (holders before : List ℕ) (es : List Entry) (states : List ℕ) (r t : Bool)
-    → Walked Dirty URLog words holders before es r states → t ≡ all settledLine (linesLent (words / 8) holders states)
+    → Walked Dirty URLog words holders before es r states → t ≡ all lineWithoutDirty (linesLent (words / 8) holders states)
     → (r && t) ≡ undosWait words (linesLent (words / 8) holders before) es
 unfolding undosWait
-undos-walked words holders before es states true t walked settled = rw (← walked .each) (settled ∙ ap (all settledLine) (walked .lines refl))
-undos-walked words holders before es states false t walked settled = rw (← walked .each)
+undos-walked words holders before es states true t walked without = rw (← walked .each) (without ∙ ap (all lineWithoutDirty) (walked .lines refl))
+undos-walked words holders before es states false t walked without = rw (← walked .each)

@@ -68,12 +68,12 @@ noneDirty zero states = true
 noneDirty (suc n) states = not (eqb (states % 4) Dirty) && noneDirty n (states / 4)
 
 -- no word of a line is Dirty
-abbrev pub settledLine : Line → Bool
-settledLine line = noneDirty 8 (line .states)
+abbrev pub lineWithoutDirty : Line → Bool
+lineWithoutDirty line = noneDirty 8 (line .states)
 
 -- undo+redo entries wait for Dirty words, and none of these is without an entry
 unfoldable pub undosWait : ℕ → List Line → List Entry → Bool
-undosWait words ls es = eachWaits Dirty URLog words ls es && all settledLine (allMarked URLog ls es)
+undosWait words ls es = eachWaits Dirty URLog words ls es && all lineWithoutDirty (allMarked URLog ls es)
 
 -- redo entries wait for Clean words
 unfoldable pub redosWait : ℕ → List Line → List Entry → Bool

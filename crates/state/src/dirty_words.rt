@@ -4,10 +4,10 @@ ghost use mathlib.Core.List.{List};
 ghost use Prim.Native.Nat.{ℕ, _≤_};
 ghost use Rattle.model.specs.Lists.{all};
 ghost use Rattle.state.specs.StateOf.{linesLent};
-ghost use Rattle.state.specs.Linear.{noneDirty, settledLine};
+ghost use Rattle.state.specs.Linear.{noneDirty, lineWithoutDirty};
 
 // No word of a line is Dirty: where the low bit of a state is set, so is the high one.
-fn is_settled(states: u16) -> bool
+fn line_without_dirty(states: u16) -> bool
     ensures { λ r. ⌜ r ≡ noneDirty 8 states ⌝ }
 {
     let low = states & 0x5555;
@@ -16,15 +16,15 @@ fn is_settled(states: u16) -> bool
 }
 
 // No word of the first lines is Dirty.
-pub(crate) fn all_settled(count: usize, states: &[u16; 64]) -> bool
+pub(crate) fn none_dirty(count: usize, states: &[u16; 64]) -> bool
     requires { ⌜ count ≤ 64 ⌝ }
-    ensures { λ r. ⌜ ((holders : List ℕ) → r ≡ all settledLine (linesLent count holders (now (states .entry)))) ⌝ }
+    ensures { λ r. ⌜ ((holders : List ℕ) → r ≡ all lineWithoutDirty (linesLent count holders (now (states .entry)))) ⌝ }
 {
-    let mut settled = true;
+    let mut without = true;
     let mut i = 0;
     while i < count {
-        settled = settled & is_settled(states[i]);
+        without = without & line_without_dirty(states[i]);
         i += 1;
     }
-    settled
+    without
 }

@@ -8,7 +8,7 @@ ghost use Rattle.parts.specs.States.{URLog};
 ghost use Rattle.state.specs.StateOf.{bareEntry, linesLent, entriesLent};
 ghost use Rattle.state.specs.Linear.{awaited, markOf, allMarked, undosWait, redosWait, Walked};
 use crate::awaited::Buffer;
-use crate::dirty_words::all_settled;
+use crate::dirty_words::none_dirty;
 
 // One entry of the buffer waits for its word. If it does, the word is marked.
 fn waits(
@@ -91,7 +91,7 @@ fn undos_wait<'a>(
         targets,
         Buffer::UndoRedo,
     );
-    each & all_settled((words / 8) as usize, states)
+    each & none_dirty((words / 8) as usize, states)
 }
 
 // The redo entries wait for Clean words.

@@ -6,7 +6,7 @@ use mathlib.Core.List.{List, [], _++_, map, map-map, append-nil}
 use native.Mathlib.Omega.{arith}
 use borrow.Author.Tests.{lt-ltb}
 use lib.Dec.{ltb}
-use lib.ListN.{length, getD, set, drop, replicate, length-map}
+use lib.ListN.{length, getD, set, drop, length-map}
 use Rattle.parts.specs.declared.Entry.{Entry}
 use Rattle.buffers.specs.declared.RedoBuffer.{RedoBuffer}
 use Rattle.parts.specs.declared.Line.{Line}
@@ -23,7 +23,7 @@ use Rattle.model.specs.Lists.{keep}
 use Rattle.model.specs.Machine.{Machine, Memory, withTail, withLines, withRedo, lineOf, statesAs, changed}
 use Rattle.model.specs.Refusals.{numberOf, common, noRoom}
 use Rattle.model.specs.Steps.{evicted, lacking, redoRecord, redoRecords, redosLogged, evictRecords, evictRows, evictNext}
-use Rattle.model.specs.Step.{evict, stepped}
+use Rattle.model.specs.Step.{evict}
 use Rattle.lines.proofs.LinesInUse.{line-in-use, first-changed}
 use Rattle.model.proofs.Rows.{None, none-apply, own-refusals, room}
 use Rattle.lines.specs.Walks.{ulogWords}
@@ -33,7 +33,7 @@ use Rattle.lines.proofs.WordStates.{withStates, state-put}
 use Rattle.lines.proofs.LineWords.{keep-below}
 use Rattle.buffers.proofs.Appending.{Appended}
 use Rattle.state.specs.declared.Fields.{Fields}
-use Rattle.state.specs.View.{view, shown}
+use Rattle.state.specs.View.{view}
 use Rattle.steps.proofs.Outcome.{common-narrow, Comes}
 use Rattle.steps.proofs.Appending.{appended-of, AppendWay, append-done}
 use Rattle.steps.proofs.LineRows.{LineFit, line-fit, lineNumber, line-number}

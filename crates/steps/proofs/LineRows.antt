@@ -11,7 +11,7 @@ use lib.ListN.{length, getD}
 use Rattle.parts.specs.States.{stateAt, Dirty}
 use Rattle.model.specs.Lists.{any, upTo}
 use Rattle.model.specs.Machine.{Machine, Memory}
-use Rattle.model.specs.Refusals.{Row, numberOf, common, isPending, place, pending}
+use Rattle.model.specs.Refusals.{Row, numberOf, common, isPending, place, pendingLine}
 use Rattle.model.specs.Steps.{lineRows}
 use Rattle.model.proofs.Rows.{None}
 use Rattle.model.proofs.Fit.{Fit}
@@ -41,7 +41,7 @@ line-there f = let w = f .fits .working in omega arith
 -- the number of a line's rows before others, by the states of the 64 lines
 abbrev pub lineNumber : ℕ → List ℕ → ℕ → ℕ → ℕ
 lineNumber words states i rest =
-    cond (leb (words / 8) i) place (cond (any (λ j. eqb (stateAt (getD states (i % 64) 0) j) Dirty) (upTo 8)) pending rest)
+    cond (leb (words / 8) i) place (cond (any (λ j. eqb (stateAt (getD states (i % 64) 0) j) Dirty) (upTo 8)) pendingLine rest)
 
 -- it is that of the step's rows, where for a line in use `rest` is the number of the others
 pub line-number : (s : Fields) (i rest n : ℕ) (rows : List Row) → s .words ≤ 512 → (i < s .words / 8 → rest ≡ numberOf rows)

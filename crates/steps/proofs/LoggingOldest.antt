@@ -1,5 +1,5 @@
 -- The oldest entry of a buffer logged, f giving its record. The buffer has n entries, `at` by their places.
-use Prim.Native.Nat.{ℕ, _+_, _-_, _/_, _≤_, _<_, min}
+use Prim.Native.Nat.{ℕ, _+_, _-_, _/_, _≤_, min}
 use mathlib.Core.Path.{_≡_, refl, sym, _∙_}
 use mathlib.Core.Bool.{true, false, false≢true}
 use mathlib.Core.List.{List, [], _∷_, map}
@@ -23,7 +23,7 @@ use Rattle.model.specs.Lists.{isEmpty}
 use Rattle.model.specs.Machine.{Machine, Memory}
 use Rattle.model.specs.Refusals.{Row, row, numberOf, nothing, noRoom, common}
 use Rattle.model.specs.Steps.{undoRedoRecord, undosLogged, oldestRows}
-use Rattle.lines.specs.Walks.{allMarked}
+use Rattle.lines.specs.Walks.{statesLogged}
 use Rattle.lines.proofs.WordStates.{withStates}
 use Rattle.buffers.proofs.LoggedLines.{logged-lines}
 use Rattle.model.proofs.Lists.{every-right}
@@ -135,7 +135,7 @@ undosGone s k ss rest = withLogged s k (withStates ss (s .lines)) rest (s .redos
 
 -- their words are marked, the others wait, and the tail is past their records
 pub undos-gone : (s : Fields) (k : ℕ) (ss : List ℕ) (rest : UndoBuffer) → WholeLines (s .lines) → length (s .undos .words) ≡ 16
-    → k ≤ s .undos .len → s .undos .len ≤ 16 → s .words ≤ 512 → ss ≡ allMarked (take k (s .undos .words)) (s .lines .states)
+    → k ≤ s .undos .len → s .undos .len ≤ 16 → s .words ≤ 512 → ss ≡ statesLogged (take k (s .undos .words)) (s .lines .states)
     → undosWaiting rest ≡ drop k (undosWaiting (s .undos)) → view (undosGone s k ss rest) ≡ undosLogged k (view s)
 undos-gone s k ss rest whole places some short narrow marks left =
     let b = s .undos in

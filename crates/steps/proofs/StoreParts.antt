@@ -176,7 +176,7 @@ module _ (n : ℕ) (ls : Lines) (i t : ℕ) (hs : List ℕ) (whole : WholeLines 
         }
 
 -- a state with its arrays whole, seen as a state of the model
-pub record Ready (m : Machine) (r : Fields) : Type 0 where
+pub record WholeState (m : Machine) (r : Fields) : Type 0 where
   pub seen : view r ≡ m
   pub lines : WholeLines (r .lines)
   pub undos : WholeUndos (r .undos)

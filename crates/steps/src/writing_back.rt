@@ -6,7 +6,7 @@ ghost use lib.Dec.{eqb, leb};
 ghost use lib.ListN.{getD};
 ghost use Rattle.parts.specs.States.{stateAt, Dirty};
 ghost use Rattle.model.specs.Lists.{any, upTo};
-ghost use Rattle.model.specs.Refusals.{numberOf, common as commonRows, place, pending};
+ghost use Rattle.model.specs.Refusals.{numberOf, common as commonRows, place, pendingLine};
 ghost use Rattle.model.specs.Step.{writeBack, stepped};
 ghost use Rattle.state.specs.View.{view, memory, shown};
 ghost use Rattle.state.specs.HandedBack.{HandedBack};
@@ -26,7 +26,7 @@ use state::cut;
 // lines.
 pub(crate) fn line_refusal(words: u16, states: &[u16; 64], line: u64, rest: u64) -> u64
     ensures { λ r. ⌜ r ≡ cond (leb (words / 8) line) place
-        (cond (any (λ j. eqb (stateAt (getD (now (states .entry)) (line % 64) 0) j) Dirty) (upTo 8)) pending rest) ⌝ }
+        (cond (any (λ j. eqb (stateAt (getD (now (states .entry)) (line % 64) 0) j) Dirty) (upTo 8)) pendingLine rest) ⌝ }
 {
     let at = (line % 64) as usize;
     refuse(

@@ -46,15 +46,6 @@ known c =
     let s = c .before .before .before in
     commit-known (s .args .number) (s .args .undos) (s .args .redos) (length (s .args .working .now)) (c .if1 .left)
 
-add-second : tie.Need-add-second
-add-second c = let k = known c in omega arith
-
-add-third : tie.Need-add-third
-add-third c = let k = known c in omega arith
-
-append-newest-requires : tie.Need-append-newest-requires
-append-newest-requires c κs = let k = known (c .before .before .before .before .before .before .before .before .before) in omega arith
-
 returns-2 : tie.Need-returns-2
 returns-2 c dirty =
     let fourth = c .before .before .append in
@@ -75,11 +66,11 @@ append-commit-spec =
     tie.close
     (tie.spec
     returns
-    add-second
-    add-third
+    (λ c. let k = known c in omega arith)
+    (λ c. let k = known c in omega arith)
     (λ c κs. search needs)
     (λ c κs. search needs)
-    append-newest-requires
+    (λ c κs. let k = known (c .before .before .before .before .before .before .before .before .before) in omega arith)
     (λ c κs. search needs)
     (λ c. search needs)
     returns-2)

@@ -74,9 +74,6 @@ loop-again c =
       ),
     )
 
-same-length : tie.Need-same-length Inv-loop μ-loop
-same-length c = progressed-length (c .before .loop .inv .1 .1 .1)
-
 returns-2 : tie.Need-returns-2 Inv-loop μ-loop
 returns-2 c = let e : c .before .loop .j ≡ 8 = omega arith in rw e at (c .before .loop .inv .1 .1 .1)
 
@@ -95,5 +92,5 @@ append-line-spec =
     (λ c. omega arith)
     (λ c. omega arith)
     loop-again
-    same-length
+    (λ c. progressed-length (c .before .loop .inv .1 .1 .1))
     returns-2)

@@ -59,9 +59,6 @@ loop-again c =
           (a .at .left) (a .at .number) (l .next .left) (l .next .number) (r .result .number) (r .result .left) (omega arith) (l .inv .1 dirty) (r .ensures),
     )
 
-same-length : tie.Need-same-length Inv-loop μ-loop
-same-length c = progressed-length (c .before .loop .inv .1 [])
-
 returns : tie.Need-returns Inv-loop μ-loop
 returns c dirty = let e : c .before .loop .i ≡ c .before .before .before .before .args .n = omega arith in rw e at (c .before .loop .inv .1 dirty)
 
@@ -79,5 +76,5 @@ append-newest-spec =
     (λ c. omega arith)
     (λ c. omega arith)
     loop-again
-    same-length
+    (λ c. progressed-length (c .before .loop .inv .1 []))
     returns)

@@ -30,12 +30,6 @@ place c =
     let a = c .before .before .before .before .before .args in
     has-place (eqb (stateAt (a .states) (l .j)) ULog) (l .at) (sym (c .before .adds .ensures) ∙ c .if1 .taken)
 
-element-write-threads : tie.Need-element-write-threads Inv-loop μ-loop
-element-write-threads c = place c
-
-add-at : tie.Need-add-at Inv-loop μ-loop
-add-at c = let h = place c in omega arith
-
 loop-again : tie.Need-loop-again Inv-loop μ-loop
 loop-again c =
     let l = c .before .before .before .loop in
@@ -69,8 +63,8 @@ put-threads-spec =
     (λ c κs. search needs)
     loop-holds
     (λ c κs. search needs)
-    element-write-threads
-    add-at
+    (λ c. place c)
+    (λ c. let h = place c in omega arith)
     (λ c. omega arith)
     (λ c. omega arith)
     loop-again

@@ -31,15 +31,6 @@ place c =
     let a = c .before .before .before .before .before .before .args in
     has-place (eqb (stateAt (a .states) (l .j)) ULog) (l .at) (sym (c .before .adds .ensures) ∙ c .if1 .taken)
 
-mul-values-3 : tie.Need-mul-values-3 Inv-loop μ-loop
-mul-values-3 c = let h = place (c .before) in omega arith
-
-element-write-values : tie.Need-element-write-values Inv-loop μ-loop
-element-write-values c = place (c .before)
-
-add-at : tie.Need-add-at Inv-loop μ-loop
-add-at c = let h = place (c .before) in omega arith
-
 loop-again : tie.Need-loop-again Inv-loop μ-loop
 loop-again c =
     let l = c .before .before .before .loop in
@@ -77,9 +68,9 @@ put-values-spec =
     (λ c. omega arith)
     (λ c. omega arith)
     (λ c. omega arith)
-    mul-values-3
-    element-write-values
-    add-at
+    (λ c. let h = place (c .before) in omega arith)
+    (λ c. place (c .before))
+    (λ c. let h = place (c .before) in omega arith)
     (λ c. omega arith)
     (λ c. omega arith)
     loop-again

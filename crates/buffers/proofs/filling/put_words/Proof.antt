@@ -31,15 +31,6 @@ place c =
     let a = c .before .before .before .before .before .args in
     has-place (eqb (stateAt (a .states) (l .j)) ULog) (l .at) (sym (c .before .adds .ensures) ∙ c .if1 .taken)
 
-mul-words-2 : tie.Need-mul-words-2 Inv-loop μ-loop
-mul-words-2 c = let h = place c in omega arith
-
-element-write-words : tie.Need-element-write-words Inv-loop μ-loop
-element-write-words c = place c
-
-add-at : tie.Need-add-at Inv-loop μ-loop
-add-at c = let h = place c in omega arith
-
 loop-again : tie.Need-loop-again Inv-loop μ-loop
 loop-again c =
     let l = c .before .before .before .loop in
@@ -76,9 +67,9 @@ put-words-spec =
     (λ c. omega arith)
     (λ c. omega arith)
     (λ c. omega arith)
-    mul-words-2
-    element-write-words
-    add-at
+    (λ c. let h = place c in omega arith)
+    (λ c. place c)
+    (λ c. let h = place c in omega arith)
     (λ c. omega arith)
     (λ c. omega arith)
     loop-again

@@ -32,9 +32,6 @@ refilled-so c =
     (a .redos .now) (joined .if2 .redos) (c .put-values .last .0)
     (c .before .less .ensures) (rest joined) (c .put-values .ensures)
 
-put-values-requires : tie.Need-put-values-requires
-put-values-requires c κs = let h = c .before .before .before .if1 .left in omega arith
-
 returns : tie.Need-returns
 returns c whole = let a = c .before .before .args in rw (le-ltb (a .line) (length (a .working .now) / 8) (c .if1 .taken))
 
@@ -45,4 +42,4 @@ returns-2 c whole =
     rw (lt-ltb (a .line) (length (a .working .now) / 8) (joined .before .if1 .left)) (refilled-so c whole)
 
 pub refill-redos-spec : {M : Type 1} → statement M
-refill-redos-spec = tie.close (tie.spec returns (λ c κs. search needs) (λ c κs. search needs) put-values-requires returns-2)
+refill-redos-spec = tie.close (tie.spec returns (λ c κs. search needs) (λ c κs. search needs) (λ c κs. let h = c .before .before .before .if1 .left in omega arith) returns-2)

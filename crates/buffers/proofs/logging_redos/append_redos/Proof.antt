@@ -43,9 +43,6 @@ loop-again c =
     passed-more redoRecord 32 (a .count) (a .len) (entry s) (a .supply) (a .log .now) (a .number) (l .loop .inv) (omega arith)
     (c .before .before .append .ensures)
 
-same-length : tie.Need-same-length Inv-loop μ-loop
-same-length c = appended-length (c .before .loop .inv .made)
-
 returns-2 : tie.Need-returns-2 Inv-loop μ-loop
 returns-2 c =
     let l = c .before in
@@ -72,5 +69,5 @@ append-redos-spec =
     (λ c. omega arith)
     (λ c. omega arith)
     loop-again
-    same-length
+    (λ c. appended-length (c .before .loop .inv .made))
     returns-2)

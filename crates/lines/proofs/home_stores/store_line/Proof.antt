@@ -43,9 +43,6 @@ loop-again c =
       s .ensures .1 ∙ rw (l .inv .1, l .inv .2) (stores-next (a .supply) (a .home .now) (wordWrite (a .working .now) (a .line)) (l .j)),
     )
 
-same-length : tie.Need-same-length Inv-loop μ-loop
-same-length c = ap length (c .before .loop .inv .2) ∙ length-stored _ _
-
 returns-2 : tie.Need-returns-2 Inv-loop μ-loop
 returns-2 c =
     let l = c .before .loop in
@@ -72,5 +69,5 @@ store-line-spec =
     (λ c. omega arith)
     (λ c. omega arith)
     loop-again
-    same-length
+    (λ c. ap length (c .before .loop .inv .2) ∙ length-stored _ _)
     returns-2)

@@ -6,19 +6,19 @@ use native.Mathlib.Omega.{arith}
 use borrow.Author.Needs.{needs}
 use lib.ListN.{length, take}
 use Rattle.parts.proofs.Oldest.{take-least}
-use Rattle.lines.specs.Walks.{allMarked}
+use Rattle.lines.specs.Walks.{statesLogged}
 use Rattle.lines.proofs.WordStates.{length-marked, marked-more}
 use Rattle.lines.proofs.marking.mark_logged.Statement.{statement}
 use Rattle.lines.proofs.marking.mark_logged.Tie as tie
 
 abbrev Inv-loop : tie.InvT-loop
-Inv-loop states₀ words count end i₀ states i = (i ≤ end) × (length states₀ ≡ 64 → length words ≡ 16 → states ≡ allMarked (take i words) states₀)
+Inv-loop states₀ words count end i₀ states i = (i ≤ end) × (length states₀ ≡ 64 → length words ≡ 16 → states ≡ statesLogged (take i words) states₀)
 
 abbrev μ-loop : tie.MeasureT-loop
 μ-loop states₀ words count end i₀ states i = end - i
 
 loop-holds : tie.Need-loop-holds Inv-loop μ-loop
-unfolding allMarked
+unfolding statesLogged
 loop-holds c = (omega arith, λ whole places. refl)
 
 loop-again : tie.Need-loop-again Inv-loop μ-loop
@@ -27,7 +27,7 @@ loop-again c =
     let a = c .before .before .before .before .before .before .args in (
       omega arith,
       λ whole places.
-          let e : l .states ≡ allMarked (take (l .i) (a .words .now)) (a .states .now) = l .inv .1 whole places in
+          let e : l .states ≡ statesLogged (take (l .i) (a .words .now)) (a .states .now) = l .inv .1 whole places in
           c .mark .ensures (ap length e ∙ length-marked (take (l .i) (a .words .now)) (a .states .now) ∙ whole)
           ∙ rw e (sym (marked-more (a .words .now) (l .i) (a .states .now) (omega arith))),
     )
@@ -36,7 +36,7 @@ returns : tie.Need-returns Inv-loop μ-loop
 returns c whole places =
     let l = c .before .loop in
     let a = c .before .before .before .args in
-    l .inv .1 whole places ∙ ap (λ (ws : List ℕ). allMarked ws (a .states .now)) (take-least (l .i) (a .count) (a .words .now) (omega arith))
+    l .inv .1 whole places ∙ ap (λ (ws : List ℕ). statesLogged ws (a .states .now)) (take-least (l .i) (a .count) (a .words .now) (omega arith))
 
 pub mark-logged-spec : {M : Type 1} → statement M
 mark-logged-spec =

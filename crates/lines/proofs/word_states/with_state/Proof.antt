@@ -32,12 +32,6 @@ sub-others c =
     let a = c .before .before .before .args in
     state-shifted-le (a .states) (a .j) (c .state-at .result) (c .state-at .ensures) (c .before .before .if1 .taken)
 
-add-result : tie.Need-add-result
-add-result c = omega (arith, sum c, sum-fits c)
-
-cast-result : tie.Need-cast-result
-cast-result c = omega (arith, sum c, sum-fits c)
-
 returns : tie.Need-returns
 returns c =
     let a = c .before .before .before .args in
@@ -58,7 +52,7 @@ with-state-spec =
     sub-others
     (λ c. search needs)
     (λ c. search needs)
-    add-result
-    cast-result
+    (λ c. omega (arith, sum c, sum-fits c))
+    (λ c. omega (arith, sum c, sum-fits c))
     returns
     returns-2)

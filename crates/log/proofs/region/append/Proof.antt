@@ -56,21 +56,6 @@ within c =
     let s = size (c .before .before) in
     rw (c .place .ensures, s .whole) (place-fits _ (c .before .before .before .before .before .before .args .number) (omega arith))
 
-torn-bit-requires : tie.Need-torn-bit-requires
-torn-bit-requires c κs = let s = size c in omega arith
-
-place-requires : tie.Need-place-requires
-place-requires c κs = let s = size (c .before) in omega arith
-
-add-end : tie.Need-add-end
-add-end c = let s = size (c .before .before) in omega (arith, within c)
-
-mul-write : tie.Need-mul-write
-mul-write c = let s = size (c .before .before) in omega (arith, within c)
-
-part-write-end : tie.Need-part-write-end
-part-write-end c = let s = size (c .before .before) in omega (arith, within c)
-
 returns-2 : tie.Need-returns-2
 unfolding slotStores
 returns-2 c =
@@ -94,13 +79,13 @@ append-spec =
     (λ c κs. search needs)
     (λ c. search needs)
     returns
-    torn-bit-requires
-    place-requires
-    add-end
-    mul-write
+    (λ c κs. let s = size c in omega arith)
+    (λ c κs. let s = size (c .before) in omega arith)
+    (λ c. let s = size (c .before .before) in omega (arith, within c))
+    (λ c. let s = size (c .before .before) in omega (arith, within c))
     (λ c. search needs)
     (λ c. search needs)
-    part-write-end
+    (λ c. let s = size (c .before .before) in omega (arith, within c))
     (λ c κs. search needs)
     (λ c. search needs)
     returns-2)

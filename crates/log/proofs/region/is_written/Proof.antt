@@ -36,21 +36,6 @@ within c =
     let s = size (c .before) in
     rw (c .place .ensures, s .whole) (place-fits _ (c .before .before .before .before .args .number) (omega arith))
 
-place-requires : tie.Need-place-requires
-place-requires c κs = let s = size c in omega arith
-
-add-at : tie.Need-add-at
-add-at c = let s = size (c .before) in omega (arith, within c)
-
-mul-result : tie.Need-mul-result
-mul-result c = let s = size (c .before) in omega (arith, within c)
-
-shared-slice-read-result : tie.Need-shared-slice-read-result
-shared-slice-read-result c = omega (arith, within (c .before))
-
-torn-bit-requires : tie.Need-torn-bit-requires
-torn-bit-requires c κs = let s = size (c .before .before) in omega arith
-
 returns-2 : tie.Need-returns-2
 returns-2 c =
     let passed = c .before .before .before in
@@ -65,9 +50,9 @@ is-written-spec =
     (tie.spec
     (λ c κs. search needs)
     returns
-    place-requires
-    add-at
-    mul-result
-    shared-slice-read-result
-    torn-bit-requires
+    (λ c κs. let s = size c in omega arith)
+    (λ c. let s = size (c .before) in omega (arith, within c))
+    (λ c. let s = size (c .before) in omega (arith, within c))
+    (λ c. omega (arith, within (c .before)))
+    (λ c κs. let s = size (c .before .before) in omega arith)
     returns-2)

@@ -26,18 +26,6 @@ within c =
     let s = size (c .before) in
     rw (c .place .ensures, s .whole) (place-fits _ (c .before .before .before .before .args .number) (omega arith))
 
-place-requires : tie.Need-place-requires
-place-requires c κs = let s = size c in omega arith
-
-add-end : tie.Need-add-end
-add-end c = let s = size (c .before) in omega (arith, within c)
-
-mul-decode : tie.Need-mul-decode
-mul-decode c = let s = size (c .before) in omega (arith, within c)
-
-part-decode-end : tie.Need-part-decode-end
-part-decode-end c = let s = size (c .before) in omega (arith, within c)
-
 returns-2 : tie.Need-returns-2
 unfolding readBack
 returns-2 c =
@@ -57,11 +45,11 @@ read-spec =
     (tie.spec
     (λ c κs. search needs)
     returns
-    place-requires
-    add-end
-    mul-decode
+    (λ c κs. let s = size c in omega arith)
+    (λ c. let s = size (c .before) in omega (arith, within c))
+    (λ c. let s = size (c .before) in omega (arith, within c))
     (λ c. search needs)
     (λ c. search needs)
-    part-decode-end
+    (λ c. let s = size (c .before) in omega (arith, within c))
     (λ c κs. search needs)
     returns-2)

@@ -24,9 +24,6 @@ one (suc n) xs s h = sym (ap (stored (set xs (s .at) (s .value))) (take-nil n))
 returns : tie.Need-returns
 returns c = none _ _ _ (c .if1 .taken)
 
-same-length : tie.Need-same-length
-same-length c = ⊎-elim (λ w. ap length (w .1) ∙ simp length-set) (λ w. ap length (w .1)) (c .if2 .came)
-
 returns-2 : tie.Need-returns-2
 returns-2 c =
     let a = c .before .before .args in
@@ -35,4 +32,4 @@ returns-2 c =
 
 pub store-spec : {M : Type 1} → statement M
 store-spec =
-    tie.close (tie.spec returns (λ c. search needs) (λ c. search needs) (λ c. search needs) same-length returns-2)
+    tie.close (tie.spec returns (λ c. search needs) (λ c. search needs) (λ c. search needs) (λ c. ⊎-elim (λ w. ap length (w .1) ∙ simp length-set) (λ w. ap length (w .1)) (c .if2 .came)) returns-2)

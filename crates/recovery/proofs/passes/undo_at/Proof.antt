@@ -2,23 +2,11 @@
 use mathlib.Core.Path.{sym, ap, _∙_}
 use Rattle.log.specs.declared.Reading.the-variants.{Good}
 use Rattle.recovery.specs.Recovering.{closedBy, undoRead}
-use Rattle.recovery.proofs.ReadOn.{valid-read, valid-record}
+use Rattle.recovery.proofs.ReadOn.{thread-read}
 use Rattle.recovery.proofs.TwoPasses.{open-closed}
 use borrow.Author.Needs.{needs}
 use Rattle.recovery.proofs.passes.undo_at.Statement.{statement}
 use Rattle.recovery.proofs.passes.undo_at.Tie as tie
-
-is-closed-requires : tie.Need-is-closed-requires
-is-closed-requires c κs =
-    let a = c .before .before .before .before .before .before .before .before .args in
-    let read = c .before .before .before .before .before .before .read .ensures in
-    let v = valid-record (a .words) _ _ _ (rw read (valid-read (a .words) (a .log .now) (a .number)))
-    (c .before .before .before .before .reading .given .1)
-    (c .before .entry .given .1) in
-    v .thread
-
-enum-told : tie.Need-enum-told
-enum-told c = search needs
 
 returns : tie.Need-returns
 returns c =
@@ -58,9 +46,9 @@ undo-at-spec =
     (λ c κs. search needs)
     (λ c. search needs)
     (λ c. search needs)
-    is-closed-requires
+    (λ c κs. thread-read _ _ _ (c .before .before .before .before .before .before .read .ensures) (c .before .before .before .before .reading .given .1) (c .before .entry .given .1))
     (λ c. search needs)
-    enum-told
+    (λ c. search needs)
     (λ c. search needs)
     (λ c. search needs)
     returns

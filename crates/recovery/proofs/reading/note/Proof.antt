@@ -7,9 +7,6 @@ use borrow.Author.Needs.{needs}
 use Rattle.recovery.proofs.reading.note.Statement.{statement}
 use Rattle.recovery.proofs.reading.note.Tie as tie
 
-enum-told : tie.Need-enum-told
-enum-told c = search needs
-
 element-write-last : tie.Need-element-write-last
 element-write-last c =
     let a = c .before .before .before .before .before .before .before .before .args in
@@ -44,7 +41,7 @@ note-spec =
     (tie.spec
     (λ c κs. search needs)
     (λ c. search needs)
-    enum-told
+    (λ c. search needs)
     (λ c. search needs)
     (λ c. search needs)
     (λ c. search needs)

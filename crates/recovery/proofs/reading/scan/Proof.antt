@@ -31,12 +31,6 @@ more c = ltb-true 0 (c .before .before .loop .left) (both-left _ _ (c .if1 .take
 there : (c : tie.Then1 Inv-loop μ-loop) → isWritten (c .before .before .before .before .before .before .args .log .now) (c .before .before .loop .tail) ≡ true
 there c = sym (c .before .is-written .ensures) ∙ both-right (ltb 0 (c .before .before .loop .left)) _ (c .if1 .taken)
 
-add-tail : tie.Need-add-tail Inv-loop μ-loop
-add-tail c = omega (arith, number-below _ _ (there (c .before .before)))
-
-sub-left : tie.Need-sub-left Inv-loop μ-loop
-sub-left c = omega (arith, more (c .before .before))
-
 loop-less : tie.Need-loop-less Inv-loop μ-loop
 loop-less c = omega (arith, more (c .before .before))
 
@@ -61,8 +55,8 @@ scan-spec =
     loop-holds
     (λ c κs. search needs)
     (λ c κs. search needs)
-    add-tail
-    sub-left
+    (λ c. omega (arith, number-below _ _ (there (c .before .before))))
+    (λ c. omega (arith, more (c .before .before)))
     loop-less
     loop-again
     returns)

@@ -20,9 +20,6 @@ abbrev μ-loop : tie.MeasureT-loop
 loop-holds : tie.Need-loop-holds Inv-loop μ-loop
 loop-holds c = (omega arith, refl)
 
-mul-if1 : tie.Need-mul-if1 Inv-loop μ-loop
-mul-if1 c = omega (arith, c .before .before .good)
-
 returns : tie.Need-returns Inv-loop μ-loop
 unfolding all
 returns c =
@@ -54,7 +51,7 @@ known-kinds-spec =
     Inv-loop
     μ-loop
     loop-holds
-    mul-if1
+    (λ c. omega (arith, c .before .before .good))
     (λ c. omega arith)
     returns
     (λ c. omega arith)

@@ -98,15 +98,6 @@ step-at-requires c κs =
     let h = c .loop-test .taken in
     (h, (below (n .threads) h, (below (n .places) h, below (n .values) h)))
 
-mul-supply : tie.Need-mul-supply Inv-loop μ-loop
-mul-supply c = offset (c .before .loop-test .taken) (c .before .before .loop .inv .1)
-
-shared-slice-read-supply : tie.Need-shared-slice-read-supply Inv-loop μ-loop
-shared-slice-read-supply c = below (c .before .before .before .loop .inv .8 .supplies) (c .before .before .loop-test .taken)
-
-step-requires : tie.Need-step-requires Inv-loop μ-loop
-step-requires c κs = tt
-
 mul-answers : tie.Need-mul-answers Inv-loop μ-loop
 mul-answers c =
     let turn = c .before .before .before .before .before .before .before .before .before .before .before .before in
@@ -181,21 +172,6 @@ loop-again c =
           made,
     )
 
-same-length-3 : tie.Need-same-length-3 Inv-loop μ-loop
-same-length-3 c = c .before .loop .inv .2
-
-same-length-4 : tie.Need-same-length-4 Inv-loop μ-loop
-same-length-4 c = c .before .loop .inv .3
-
-same-length-5 : tie.Need-same-length-5 Inv-loop μ-loop
-same-length-5 c = c .before .loop .inv .4
-
-same-length-6 : tie.Need-same-length-6 Inv-loop μ-loop
-same-length-6 c = c .before .loop .inv .5
-
-same-length-7 : tie.Need-same-length-7 Inv-loop μ-loop
-same-length-7 c = c .before .loop .inv .6
-
 returns-2 : tie.Need-returns-2 Inv-loop μ-loop
 returns-2 c =
     let l = c .before .loop in
@@ -222,9 +198,9 @@ run-spec =
     returns
     loop-holds
     step-at-requires
-    mul-supply
-    shared-slice-read-supply
-    step-requires
+    (λ c. offset (c .before .loop-test .taken) (c .before .before .loop .inv .1))
+    (λ c. below (c .before .before .before .loop .inv .8 .supplies) (c .before .before .loop-test .taken))
+    (λ c κs. tt)
     mul-answers
     slice-write-answers
     sub-stores
@@ -233,9 +209,9 @@ run-spec =
     add-i
     loop-less
     loop-again
-    same-length-3
-    same-length-4
-    same-length-5
-    same-length-6
-    same-length-7
+    (λ c. c .before .loop .inv .2)
+    (λ c. c .before .loop .inv .3)
+    (λ c. c .before .loop .inv .4)
+    (λ c. c .before .loop .inv .5)
+    (λ c. c .before .loop .inv .6)
     returns-2)

@@ -29,12 +29,6 @@ module _ (c : tie.Else1) where
       let a = c .before .before .args in
       limits-hold (a .words) (a .slots) (a .head) (a .tail) (a .undos) (a .redos) within
 
-lines-sound-requires : tie.Need-lines-sound-requires
-lines-sound-requires c κs = omega (arith, bounded c)
-
-all-wait-requires : tie.Need-all-wait-requires
-all-wait-requires c κs = bounded (c .before .before)
-
 returns-2 : tie.Need-returns-2
 returns-2 c =
     let start = c .before .before .before in
@@ -51,6 +45,6 @@ is-consistent-spec =
     (λ c κs. search needs)
     returns
     (λ c. search needs)
-    lines-sound-requires
-    all-wait-requires
+    (λ c κs. omega (arith, bounded c))
+    (λ c κs. bounded (c .before .before))
     returns-2)

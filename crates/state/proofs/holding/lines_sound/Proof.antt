@@ -19,15 +19,9 @@ Inv-loop count opened holders states bits sound₀ i₀ sound i =
 abbrev μ-loop : tie.MeasureT-loop
 μ-loop count opened holders states bits sound₀ i₀ sound i = count - i
 
-open-bits-requires : tie.Need-open-bits-requires Inv-loop μ-loop
-open-bits-requires c κs = tt
-
 loop-holds : tie.Need-loop-holds Inv-loop μ-loop
 unfolding all listed
 loop-holds c = (omega arith, refl)
-
-line-sound-requires : tie.Need-line-sound-requires Inv-loop μ-loop
-line-sound-requires c κs = tt
 
 loop-again : tie.Need-loop-again Inv-loop μ-loop
 loop-again c =
@@ -51,12 +45,12 @@ lines-sound-spec =
     (tie.spec
     Inv-loop
     μ-loop
-    open-bits-requires
+    (λ c κs. tt)
     loop-holds
     (λ c. omega arith)
     (λ c. omega arith)
     (λ c. omega arith)
-    line-sound-requires
+    (λ c κs. tt)
     (λ c. omega arith)
     (λ c. omega arith)
     loop-again

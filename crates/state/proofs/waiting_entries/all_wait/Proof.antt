@@ -1,5 +1,5 @@
 -- `waiting_entries::all_wait` meets its contract: the second walk may begin where the first has ended.
-use Prim.Native.Nat.{_*_, _/_, _≤_}
+use Prim.Native.Nat.{_/_}
 use mathlib.Core.Path.{_≡_, ap, _∙_}
 use mathlib.Core.List.{List}
 use native.Mathlib.Omega.{arith}

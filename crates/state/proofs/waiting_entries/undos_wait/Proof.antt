@@ -10,10 +10,10 @@ returns : tie.Need-returns
 returns c =
     let a = c .before .before .before .before .before .before .args in
     let each = c .before .before .each-waits in
-    let settled = c .all-settled in (
+    let without = c .none-dirty in (
       undos-walked (a .words) (a .holders .now) (a .states .now) (entriesLent (a .count) (a .threads .now) (a .targets .now)) (each .last .1 .1 .0)
-          (each .result) (settled .result) (each .ensures) (settled .ensures (a .holders .now)),
-      (each .ensures .size, λ passed. each .ensures .lines (both-left (each .result) (settled .result) passed)),
+          (each .result) (without .result) (each .ensures) (without .ensures (a .holders .now)),
+      (each .ensures .size, λ passed. each .ensures .lines (both-left (each .result) (without .result) passed)),
     )
 
 pub undos-wait-spec : {M : Type 1} → statement M

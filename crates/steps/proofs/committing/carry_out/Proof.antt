@@ -32,9 +32,6 @@ cast-append-commit : tie.Need-cast-append-commit
 cast-append-commit c = omega
     (arith, c .before .before .before .before .before .before .before .before .before .before .before .before .before .before .pre)
 
-mul-if1 : tie.Need-mul-if1
-mul-if1 c = omega (arith, start (c .before .before) .pre)
-
 returns : tie.Need-returns
 returns c home allowed =
     let logged = c .before .before .before .before .before .before .before in
@@ -111,7 +108,7 @@ carry-out-spec =
     (tie.spec
     cast-append-commit
     (λ c κs. search needs)
-    mul-if1
+    (λ c. omega (arith, start (c .before .before) .pre))
     (λ c κs. search needs)
     (λ c. search needs)
     (λ c. search needs)

@@ -22,12 +22,6 @@ few c =
       c .before .pre,
     )
 
-add-result-2 : tie.Need-add-result-2
-add-result-2 c = omega (arith, few c)
-
-add-result-3 : tie.Need-add-result-3
-add-result-3 c = omega (arith, few c)
-
 returns : tie.Need-returns
 returns c =
     let a = c .before .args in
@@ -41,4 +35,4 @@ returns c =
 pub count-records-spec : {M : Type 1} → statement M
 count-records-spec =
     tie.close
-    (tie.spec (λ c. search needs) (λ c κs. search needs) (λ c. search needs) add-result-2 add-result-3 returns)
+    (tie.spec (λ c. search needs) (λ c κs. search needs) (λ c. search needs) (λ c. omega (arith, few c)) (λ c. omega (arith, few c)) returns)

@@ -4,9 +4,6 @@ use Rattle.model.specs.Refusals.{numberOf}
 use Rattle.steps.proofs.deleting.refusal.Statement.{statement}
 use Rattle.steps.proofs.deleting.refusal.Tie as tie
 
-enum-told : tie.Need-enum-told
-enum-told c = search needs
-
 returns : tie.Need-returns
 unfolding numberOf
 returns c = rw (c .enum-told .given .1)
@@ -30,4 +27,4 @@ returns-5 c = rw (c .enum-told5 .given .1)
 pub refusal-spec : {M : Type 1} → statement M
 refusal-spec =
     tie.close
-    (tie.spec enum-told (λ c. search needs) (λ c. search needs) (λ c. search needs) (λ c. search needs) returns returns-2 returns-3 returns-4 returns-5)
+    (tie.spec (λ c. search needs) (λ c. search needs) (λ c. search needs) (λ c. search needs) (λ c. search needs) returns returns-2 returns-3 returns-4 returns-5)

@@ -85,9 +85,6 @@ module _ (c : tie.Else1) where
       let narrow = passed .narrow in
       omega arith
 
-lacking-requires : tie.Need-lacking-requires
-lacking-requires c κs = few (c .before .before .before .before .before)
-
 no-room-requires : tie.Need-no-room-requires
 no-room-requires c κs =
     let f = fits (start c) in
@@ -132,12 +129,6 @@ logged c = c .before .before .before .before .before
 
 abbrev unread : tie.After-states-at-arg → tie.Else1
 unread c = unrefused (logged c)
-
-states-at-requires : tie.Need-states-at-requires
-states-at-requires c κs = place (unread c)
-
-holder-at-requires : tie.Need-holder-at-requires
-holder-at-requires c κs = place (unread (c .before .before .before .before))
 
 sub-state : tie.Need-sub-state
 sub-state c = taken (unread (c .before .before .before .before .before .before .before .before .before .before .before .before)) .lacking .ensures .0
@@ -213,7 +204,7 @@ pub evicted-spec : {M : Type 1} → statement M
 evicted-spec =
     tie.close
     (tie.spec
-    lacking-requires
+    (λ c κs. few (c .before .before .before .before .before))
     no-room-requires
     (λ c κs. search needs)
     (λ c κs. search needs)
@@ -224,8 +215,8 @@ evicted-spec =
     (λ c. search needs)
     (λ c. search needs)
     returns-2
-    states-at-requires
-    holder-at-requires
+    (λ c κs. place (unread c))
+    (λ c κs. place (unread (c .before .before .before .before)))
     (λ c κs. search needs)
     (λ c κs. search needs)
     (λ c κs. search needs)

@@ -9,7 +9,7 @@ use Rattle.recovery.proofs.RecoverStep.{recover-any}
 use Rattle.steps.proofs.stepping.dispatch.Statement.{statement}
 use Rattle.steps.proofs.stepping.dispatch.Tie as tie
 
--- no early row refuses the step, whichever it is
+-- no row before its own refuses the step, whichever it is
 passed : (c : tie.After-slice-known3) (s : Step)
     → let a = c .before .before .before .args in
     a .step ≡ s → numberOf (firstRows s (view (a .state)) (memory (a .home .now) (a .working .now) (a .log .now))) ≡ 0
@@ -22,31 +22,10 @@ passed c s e =
 own : (c : tie.After-slice-known3) → let a = c .before .before .before .args in TakenOut (a .opened .now) (a .holders .now) (a .states .now) (a .state)
 own c = c .before .before .before .pre .0
 
-begun-requires : tie.Need-begun-requires
-begun-requires c κs = passed (c .before .before .before) _ (c .before .step .given .1)
-
 stored-requires : tie.Need-stored-requires
 stored-requires c κs =
     let d = c .before .before .before .before in
     (own (d .before .before), passed (d .before .before) _ (d .step2 .given .1))
-
-enum-told : tie.Need-enum-told
-enum-told c = search needs
-
-undo-logged-requires : tie.Need-undo-logged-requires
-undo-logged-requires c κs =
-    let d = c .before .before .before in
-    passed (d .before .before) _ (d .enum-told .given .1)
-
-redo-logged-requires : tie.Need-redo-logged-requires
-redo-logged-requires c κs =
-    let d = c .before .before .before in
-    passed (d .before .before) _ (d .enum-told2 .given .1)
-
-evicted-requires : tie.Need-evicted-requires
-evicted-requires c κs =
-    let d = c .before .before .before .before in
-    passed (d .before .before) _ (d .step3 .given .1)
 
 written-back-requires : tie.Need-written-back-requires
 written-back-requires c κs =
@@ -58,33 +37,13 @@ committed-requires c κs =
     let d = c .before .before .before .before in
     (own (d .before .before), passed (d .before .before) _ (d .step5 .given .1))
 
-deleted-requires : tie.Need-deleted-requires
-deleted-requires c κs =
-    let d = c .before .before .before in
-    passed (d .before .before) _ (d .enum-told3 .given .1)
-
 returns : tie.Need-returns
 returns c = rw (c .before .before .step .given .1) (c .begun .ensures .0 _, c .begun .ensures .1)
-
-returns-2 : tie.Need-returns-2
-returns-2 c =
-    let d = c .before .before .before .before in
-    rw (d .before .before .before .before .before .step2 .given .1) (d .stored .ensures)
-
-returns-3 : tie.Need-returns-3
-returns-3 c =
-    let d = c .before .before .before .before in
-    rw (d .before .before .before .before .enum-told .given .1) (d .undo-logged .ensures)
 
 returns-4 : tie.Need-returns-4
 returns-4 c =
     let d = c .before .before .before .before in
     rw (d .before .before .before .before .enum-told2 .given .1) (d .redo-logged .ensures)
-
-returns-5 : tie.Need-returns-5
-returns-5 c =
-    let d = c .before .before .before .before in
-    rw (d .before .before .before .before .before .step3 .given .1) (d .evicted .ensures)
 
 returns-6 : tie.Need-returns-6
 returns-6 c =
@@ -95,11 +54,6 @@ returns-7 : tie.Need-returns-7
 returns-7 c =
     let d = c .before .before .before .before in
     rw (d .before .before .before .before .before .step5 .given .1) (d .committed .ensures)
-
-returns-8 : tie.Need-returns-8
-returns-8 c =
-    let d = c .before .before .before .before in
-    rw (d .before .before .before .before .enum-told3 .given .1) (d .deleted .ensures)
 
 -- a recovery takes no state
 returns-9 : tie.Need-returns-9
@@ -112,32 +66,32 @@ dispatch-spec =
     tie.close
     (tie.spec
     (λ c. search needs)
-    begun-requires
+    (λ c κs. passed (c .before .before .before) _ (c .before .step .given .1))
     (λ c. search needs)
     stored-requires
-    enum-told
-    undo-logged-requires
     (λ c. search needs)
-    redo-logged-requires
+    (λ c κs. passed (c .before .before .before .before .before) _ (c .before .before .before .enum-told .given .1))
     (λ c. search needs)
-    evicted-requires
+    (λ c κs. passed (c .before .before .before .before .before) _ (c .before .before .before .enum-told2 .given .1))
+    (λ c. search needs)
+    (λ c κs. passed (c .before .before .before .before .before .before) _ (c .before .before .before .before .step3 .given .1))
     (λ c. search needs)
     written-back-requires
     (λ c. search needs)
     committed-requires
     (λ c. search needs)
-    deleted-requires
+    (λ c κs. passed (c .before .before .before .before .before) _ (c .before .before .before .enum-told3 .given .1))
     (λ c. search needs)
     (λ c κs. search needs)
     returns
     (λ c. search needs)
     (λ c. search needs)
     (λ c. search needs)
-    returns-2
+    (λ c. rw (c .before .before .before .before .before .before .before .before .before .step2 .given .1) (c .before .before .before .before .stored .ensures))
     (λ c. search needs)
     (λ c. search needs)
     (λ c. search needs)
-    returns-3
+    (λ c. rw (c .before .before .before .before .before .before .before .before .enum-told .given .1) (c .before .before .before .before .undo-logged .ensures))
     (λ c. search needs)
     (λ c. search needs)
     (λ c. search needs)
@@ -145,7 +99,7 @@ dispatch-spec =
     (λ c. search needs)
     (λ c. search needs)
     (λ c. search needs)
-    returns-5
+    (λ c. rw (c .before .before .before .before .before .before .before .before .before .step3 .given .1) (c .before .before .before .before .evicted .ensures))
     (λ c. search needs)
     (λ c. search needs)
     (λ c. search needs)
@@ -157,7 +111,7 @@ dispatch-spec =
     (λ c. search needs)
     (λ c. search needs)
     (λ c. search needs)
-    returns-8
+    (λ c. rw (c .before .before .before .before .before .before .before .before .enum-told3 .given .1) (c .before .before .before .before .deleted .ensures))
     (λ c. search needs)
     (λ c. search needs)
     (λ c. search needs)

@@ -30,9 +30,6 @@ common-first (commit t) m mem one = refl
 common-first deleteOldest m mem one = refl
 common-first recover m mem one = absurd (miss others 8 tt one)
 
-enum-told : tie.Need-enum-told
-enum-told c = search needs
-
 returns : tie.Need-returns
 unfolding numberOf
 returns c =
@@ -54,4 +51,4 @@ returns-3 c =
 
 pub first-refusal-spec : {M : Type 1} → statement M
 first-refusal-spec =
-    tie.close (tie.spec enum-told (λ c κs. search needs) (λ c κs. search needs) (λ c. search needs) (λ c κs. search needs) returns returns-2 returns-3)
+    tie.close (tie.spec (λ c. search needs) (λ c κs. search needs) (λ c κs. search needs) (λ c. search needs) (λ c κs. search needs) returns returns-2 returns-3)

@@ -7,7 +7,7 @@ use Rattle.model.specs.Machine.{Memory}
 use Rattle.model.specs.Consistent.{consistent}
 use Rattle.model.specs.Refusals.{numberOf}
 use Rattle.state.specs.View.{view, memory}
-use Rattle.model.specs.Step.{Step, takesState, firstRows}
+use Rattle.model.specs.Step.{takesState, firstRows}
 use Rattle.steps.proofs.Outcome.{first-way}
 use Rattle.steps.proofs.Sound.{sound-here}
 use Rattle.steps.proofs.stepping.perform.Statement.{statement}
@@ -22,9 +22,6 @@ sound : (c : tie.Joined1) → takesState (start c .args .step) ≡ true → c .i
 sound c takes =
     ⊎-elim (λ w. w .9 ∙ w .8 .ensures ∙ sound-here (start c .args .state))
     (λ w. absurd (false≢true (sym (w .0 .left) ∙ c .before .takes-state .ensures ∙ takes))) (c .if1 .came)
-
-first-refusal-requires : tie.Need-first-refusal-requires
-first-refusal-requires c κs = sound (c .before .before .before)
 
 -- the number of the rows before the step's own
 module _ (c : tie.After-first-refusal) where
@@ -55,7 +52,7 @@ perform-spec =
     (tie.spec
     (λ c κs. search needs)
     (λ c κs. search needs)
-    first-refusal-requires
+    (λ c κs. sound (c .before .before .before))
     (λ c κs. search needs)
     (λ c. search needs)
     (λ c. search needs)

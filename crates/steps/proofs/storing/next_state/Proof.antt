@@ -26,7 +26,7 @@ use Rattle.state.specs.View.{view}
 use Rattle.lines.proofs.WordStates.{withStates, first-marked, whole-marked}
 use Rattle.steps.proofs.LoggingOldest.{WholeUndos, WholeRedos, undosGone, undos-gone}
 use Rattle.steps.proofs.StoreParts.{logs-most, logs-other, none-logged, logs-room, undos-length, next-same, next-other}
-use Rattle.steps.proofs.StoreParts.{held-lines, dirty-lines, whole-dirty, place-found, redos-kept, Ready}
+use Rattle.steps.proofs.StoreParts.{held-lines, dirty-lines, whole-dirty, place-found, redos-kept, WholeState}
 use Rattle.steps.proofs.StoreParts.{stored-first, stored-dirty, stored-logged, stored-last}
 use Rattle.steps.proofs.storing.next_state.Statement.{statement}
 use Rattle.steps.proofs.storing.next_state.Tie as tie
@@ -145,7 +145,7 @@ module _ (c : tie.After-mark-logged) where
   abbrev room : Fields
   room = undosGone (claimed here) count (c .mark-logged .last .0) rest
 
-  ready : Ready (undosLogged count (view (claimed here))) room
+  ready : WholeState (undosLogged count (view (claimed here))) room
   ready =
       let p = start here .pre in
       let wide = whole-claimed here in
@@ -167,12 +167,6 @@ module _ (c : tie.After-mark-logged) where
       let place = logs-room (view (s here)) (e here .word) (eqb (e here .redo) (e here .undo)) k count
       (differs here) (kind here) (c .before .before .before .before .match .keys1) (p .1 .1) (omega arith) in
       (omega arith, (omega arith, omega arith))
-
-sub-state : tie.Need-sub-state
-sub-state c = few-first (here (c .before .before .before .before .before .before .before .before)) .1
-
-add-state : tie.Need-add-state
-add-state c = let l = limits (c .before .before .before .before .before .before .before .before) .0 in omega arith
 
 add-state-2 : tie.Need-add-state-2
 add-state-2 c =
@@ -337,8 +331,8 @@ next-state-spec =
     (λ c κs. search needs)
     (λ c κs. search needs)
     (λ c κs. search needs)
-    sub-state
-    add-state
+    (λ c. few-first (here (c .before .before .before .before .before .before .before .before)) .1)
+    (λ c. let l = limits (c .before .before .before .before .before .before .before .before) .0 in omega arith)
     add-state-2
     (λ c κs. search needs)
     (λ c κs. search needs)

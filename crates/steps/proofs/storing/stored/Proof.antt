@@ -209,9 +209,6 @@ mul-if4-2 c =
     let few = count-few (count c) in
     omega arith
 
-same-length-2 : tie.Need-same-length-2
-same-length-2 c = appended-length (logged (c .before .before .before .before .before))
-
 returns-3 : tie.Need-returns-3
 returns-3 c =
     let here = c .before .before .before .before .before in
@@ -240,9 +237,6 @@ next-state-requires c κs =
       (omega arith, (omega arith, f .tail)),
       ((k .word, (k .width .most, k .width .whole)), count-here (count (c .before))),
     )
-
-same-length-4 : tie.Need-same-length-4
-same-length-4 c = appended-length (logged (c .before .before))
 
 returns-4 : tie.Need-returns-4
 returns-4 c =
@@ -274,11 +268,11 @@ stored-spec =
     mul-if4-2
     (λ c κs. search needs)
     (λ c. search needs)
-    same-length-2
+    (λ c. appended-length (logged (c .before .before .before .before .before)))
     returns-3
     (λ c. search needs)
     slice-write-working
     next-state-requires
     (λ c. search needs)
-    same-length-4
+    (λ c. appended-length (logged (c .before .before)))
     returns-4)

@@ -3,7 +3,7 @@ use Prim.Native.Nat.{_/_}
 use mathlib.Core.Path.{ap, _∙_}
 use mathlib.Core.Bool.{Bool, cond}
 use lib.Dec.{leb}
-use Rattle.model.specs.Refusals.{place, pending}
+use Rattle.model.specs.Refusals.{place, pendingLine}
 use borrow.Author.Needs.{needs}
 use Rattle.steps.proofs.writing_back.line_refusal.Statement.{statement}
 use Rattle.steps.proofs.writing_back.line_refusal.Tie as tie
@@ -13,7 +13,7 @@ returns c =
     let a = c .before .before .before .before .args in
     c .refuse2 .ensures
     ∙ ap (cond (leb (a .words / 8) (a .line)) place)
-    (c .before .refuse .ensures ∙ ap (λ (t : Bool). cond t pending (a .rest)) (c .before .before .has-dirty .ensures))
+    (c .before .refuse .ensures ∙ ap (λ (t : Bool). cond t pendingLine (a .rest)) (c .before .before .has-dirty .ensures))
 
 pub line-refusal-spec : {M : Type 1} → statement M
 line-refusal-spec =

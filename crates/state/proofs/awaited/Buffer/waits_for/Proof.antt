@@ -5,9 +5,6 @@ use Rattle.parts.specs.States.{Clean, Dirty}
 use Rattle.state.proofs.awaited.Buffer.waits_for.Statement.{statement}
 use Rattle.state.proofs.awaited.Buffer.waits_for.Tie as tie
 
-enum-told : tie.Need-enum-told
-enum-told c = search needs
-
 returns : tie.Need-returns
 returns c = rw (c .before .enum-told .given .1, c .match2 .keys1)
 
@@ -21,4 +18,4 @@ returns-4 : tie.Need-returns-4
 returns-4 c = rw (c .before .enum-told2 .given .1, ne-eqb (c .before .before .before .args .state) Clean (c .match3 .rest .1))
 
 pub waits-for-spec : {M : Type 1} → statement M
-waits-for-spec = tie.close (tie.spec enum-told (λ c. search needs) returns returns-2 returns-3 returns-4)
+waits-for-spec = tie.close (tie.spec (λ c. search needs) (λ c. search needs) returns returns-2 returns-3 returns-4)

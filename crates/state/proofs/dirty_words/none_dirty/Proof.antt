@@ -1,4 +1,4 @@
--- `dirty_words::all_settled` meets its contract: the flag is the test of the lines so far.
+-- `dirty_words::none_dirty` meets its contract: the flag is the test of the lines so far.
 use Prim.Native.Nat.{ℕ, _-_, _≤_}
 use mathlib.Core.Path.{_≡_, refl, sym, ap, ap₂, _∙_}
 use mathlib.Core.Bool.{Bool, _&&_}
@@ -8,23 +8,20 @@ use lib.ListN.{getD}
 use Rattle.parts.specs.Listed.{listed}
 use Rattle.model.specs.Lists.{all}
 use Rattle.state.specs.StateOf.{bareLine, linesLent}
-use Rattle.state.specs.Linear.{settledLine}
+use Rattle.state.specs.Linear.{lineWithoutDirty}
 use Rattle.state.proofs.Walking.{all-more}
-use Rattle.state.proofs.dirty_words.all_settled.Statement.{statement}
-use Rattle.state.proofs.dirty_words.all_settled.Tie as tie
+use Rattle.state.proofs.dirty_words.none_dirty.Statement.{statement}
+use Rattle.state.proofs.dirty_words.none_dirty.Tie as tie
 
 abbrev Inv-loop : tie.InvT-loop
-Inv-loop count states settled₀ i₀ settled i = (i ≤ count) × ((holders : List ℕ) → settled ≡ all settledLine (linesLent i holders states))
+Inv-loop count states without₀ i₀ without i = (i ≤ count) × ((holders : List ℕ) → without ≡ all lineWithoutDirty (linesLent i holders states))
 
 abbrev μ-loop : tie.MeasureT-loop
-μ-loop count states settled₀ i₀ settled i = count - i
+μ-loop count states without₀ i₀ without i = count - i
 
 loop-holds : tie.Need-loop-holds Inv-loop μ-loop
 unfolding all listed
 loop-holds c = (omega arith, λ holders. refl)
-
-is-settled-requires : tie.Need-is-settled-requires Inv-loop μ-loop
-is-settled-requires c κs = tt
 
 loop-again : tie.Need-loop-again Inv-loop μ-loop
 loop-again c =
@@ -32,18 +29,18 @@ loop-again c =
     let states = c .before .before .before .before .args .states .now in (
       omega arith,
       λ holders.
-          ap₂ (λ (s t : Bool). s && t) (c .before .before .before .loop .inv .1 holders) (c .is-settled .ensures)
-          ∙ sym (all-more settledLine i (λ k. bareLine (getD holders k 0) (getD states k 0))),
+          ap₂ (λ (s t : Bool). s && t) (c .before .before .before .loop .inv .1 holders) (c .line-without-dirty .ensures)
+          ∙ sym (all-more lineWithoutDirty i (λ k. bareLine (getD holders k 0) (getD states k 0))),
     )
 
 returns : tie.Need-returns Inv-loop μ-loop
 returns c =
     let a = c .before .before .args in
     let same : c .before .loop .i ≡ a .count = omega arith in
-    λ holders. c .before .loop .inv .1 holders ∙ ap (λ (n : ℕ). all settledLine (linesLent n holders (a .states .now))) same
+    λ holders. c .before .loop .inv .1 holders ∙ ap (λ (n : ℕ). all lineWithoutDirty (linesLent n holders (a .states .now))) same
 
-pub all-settled-spec : {M : Type 1} → statement M
-all-settled-spec =
+pub none-dirty-spec : {M : Type 1} → statement M
+none-dirty-spec =
     tie.close
     (tie.spec
     Inv-loop
@@ -51,7 +48,7 @@ all-settled-spec =
     loop-holds
     (λ c. omega arith)
     (λ c. omega arith)
-    is-settled-requires
+    (λ c κs. tt)
     (λ c. omega arith)
     (λ c. omega arith)
     loop-again

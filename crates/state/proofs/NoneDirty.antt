@@ -45,10 +45,10 @@ one-state (suc (suc (suc zero))) h = refl
 one-state (suc (suc (suc (suc r)))) h = absurd (omega arith)
 
 -- where the low bit of a state is set, so is the high one: none of n states is Dirty
-pub settled-bits : (n s : ℕ) → eqb (bitAnd (bitAnd s (lowBits n)) (bitAnd (s / 2) (lowBits n))) (bitAnd s (lowBits n)) ≡ noneDirty n s
+pub none-dirty-bits : (n s : ℕ) → eqb (bitAnd (bitAnd s (lowBits n)) (bitAnd (s / 2) (lowBits n))) (bitAnd s (lowBits n)) ≡ noneDirty n s
 unfolding noneDirty
-settled-bits zero s = rw (and-zero-r s)
-settled-bits (suc n) s =
+none-dirty-bits zero s = rw (and-zero-r s)
+none-dirty-bits (suc n) s =
     let q : ℕ = s / 4 in
     let a : ℕ = bitAnd q (lowBits n) in
     let b : ℕ = bitAnd (q / 2) (lowBits n) in
@@ -62,7 +62,7 @@ settled-bits (suc n) s =
     ap₂ (λ (x y : ℕ). eqb (bitAnd x y) x) low-a low-b
     ∙ ap (λ (x : ℕ). eqb x (a * 4 + r % 2)) (and-block 2 a b (r % 2) (r / 2) (omega arith) (omega arith))
     ∙ digits-eqb (bitAnd a b) a (bitAnd (r % 2) (r / 2)) (r % 2) (omega (arith, and-le-l (r % 2) (r / 2))) (omega arith)
-    ∙ ap₂ (λ (x y : Bool). x && y) (one-state r (omega arith)) (settled-bits n q)
+    ∙ ap₂ (λ (x y : Bool). x && y) (one-state r (omega arith)) (none-dirty-bits n q)
 
 -- the first state, and the others as those of the rest
 state-zero : (s : ℕ) → stateAt s 0 ≡ s % 4

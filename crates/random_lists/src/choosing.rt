@@ -20,7 +20,8 @@ use crate::tables::digit;
 use crate::tables::longest;
 use crate::tables::script;
 
-// A run of steps of one kind, this step with its kind k, thread t, word or line p, value v and supply count c, and the generator's x.
+// A run of steps of one kind, this step with its kind k, thread t, word or line p, value v and supply count c, and the
+// generator's x.
 pub struct Run {
     pub x: u64,
     pub at: u64,

@@ -54,7 +54,8 @@ pub(crate) fn undisturbed(x: u64) -> Disturbance {
     }
 }
 
-// "if spoiled, all log words become 0; otherwise, if there is a patch (i, old, new) and log word i is new, log word i becomes old"
+// "if spoiled, all log words become 0; otherwise, if there is a patch (i, old, new) and log word i is new, log word i
+// becomes old"
 fn put_back(log: &mut [u64], t: Disturbance) {
     let mut at = 0;
     while at < log.len() {

@@ -1,5 +1,5 @@
-// Makes the random step lists that bench/LISTS.md defines, runs each through the machine's public methods, and prints their digests.
-// The twin in bench/twin prints the same. A comment in quotation marks names a part of LISTS.md.
+// Makes the random step lists that bench/LISTS.md defines, runs each through the machine's public methods, and prints
+// their digests. The twin in bench/twin prints the same. A comment in quotation marks names a part of LISTS.md.
 mod changing;
 mod choosing;
 mod digest;

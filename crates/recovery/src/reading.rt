@@ -17,7 +17,8 @@ pub struct Found {
 // Reads a record, and notes it if it is a commit. Hands back whether it is bad.
 fn note(last: &mut [u64; 8], log: &[u64], number: u64, words: u16) -> bool
     ensures { λ r. ⌜ r ≡ isBad (readBack words (now (log .entry)) number) ⌝ }
-    ensures { λ r. ⌜ now (last .exit) ≡ commitNoted number (readBack words (now (log .entry)) number) (now (last .entry)) ⌝ }
+    ensures { λ r. ⌜ now (last .exit) ≡ commitNoted number (readBack words (now (log .entry)) number) (now
+        (last .entry)) ⌝ }
 {
     let reading = log::read(log, number, words);
     match reading {

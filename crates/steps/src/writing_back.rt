@@ -26,7 +26,8 @@ use state::cut;
 // lines.
 pub(crate) fn line_refusal(words: u16, states: &[u16; 64], line: u64, rest: u64) -> u64
     ensures { λ r. ⌜ r ≡ cond (leb (words / 8) line) place
-        (cond (any (λ j. eqb (stateAt (getD (now (states .entry)) (line % 64) 0) j) Dirty) (upTo 8)) pendingLine rest) ⌝ }
+        (cond (any (λ j. eqb (stateAt (getD (now (states .entry)) (line % 64) 0) j) Dirty)
+        (upTo 8)) pendingLine rest) ⌝ }
 {
     let at = (line % 64) as usize;
     refuse(

@@ -19,11 +19,11 @@ whole-list = list.whole-list
 pub always-recoverable : RecoverableClaim
 always-recoverable = list.always-recoverable
 
--- The same as the first of the lists that the code runs, by the answers that it wrote: at each recovery in them.
+-- Of a list that the code runs, by the answers that it wrote: at each recovery answered done home equals the book.
 pub each-recovery : CodeClaim
 each-recovery = code.code-claim
 
--- And of the home words that the code hands back, where the last step of its list is such a recovery.
+-- Where the last step of the list is such a recovery, the home words that the code hands back equal the book.
 pub handed-back : HandedBackClaim
 handed-back = code.handed-back
 

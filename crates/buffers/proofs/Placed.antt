@@ -6,7 +6,7 @@ use native.Mathlib.Omega.{arith}
 use lib.ListN.{length, set}
 use Rattle.buffers.specs.Arrays.{placed}
 use Rattle.parts.specs.declared.Entry.{Entry}
-use Rattle.buffers.specs.Waiting.{waitingOf}
+use Rattle.buffers.specs.Waiting.{keyed, waitingOf}
 use Rattle.buffers.proofs.Waiting.{WholeKeys, redo-added, keys-put}
 
 -- none
@@ -22,23 +22,19 @@ placed-last n (z ∷ ys) y xs =
     let e : n + 1 + length ys ≡ n + length (z ∷ ys) = omega arith in
     placed-last (n + 1) ys y (set xs n z) ∙ ap (λ (k : ℕ). set (placed (n + 1) ys (set xs n z)) k y) e
 
--- the redo buffer with an entry f j for each j of a list
-module _ (f : ℕ → Entry) (no-undo : (j : ℕ) → f j .undo ≡ 0) (n : ℕ) where
-  pub redos-placed : (js : List ℕ) (len : ℕ) (threads words redos : List ℕ) → WholeKeys n threads words redos → len + length js ≤ n
-      → waitingOf (len + length js) (placed len (map (λ j. f j .thread) js) threads) (placed len (map (λ j. f j .word) js) words) []
-      (placed len (map (λ j. f j .redo) js) redos)
-      ≡ waitingOf len threads words [] redos ++ map f js
+-- the redo buffer with an entry for each j of a list, key and redo giving its numbers
+module _ (key redo : ℕ → ℕ) (n : ℕ) where
+  pub redos-placed : (js : List ℕ) (len : ℕ) (keys redos : List ℕ) → WholeKeys n keys redos → len + length js ≤ n
+      → waitingOf (len + length js) (placed len (map key js) keys) [] (placed len (map redo js) redos)
+      ≡ waitingOf len keys [] redos ++ map (λ j. keyed (key j) 0 (redo j)) js
   unfolding placed
-  redos-placed [] len threads words redos keys h =
+  redos-placed [] len keys redos whole h =
       let e : len + 0 ≡ len = omega arith in
-      rw e (sym (append-nil (waitingOf len threads words [] redos)))
-  redos-placed (j ∷ js) len threads words redos keys h =
-      let x : Entry = f j in
-      let ts : List ℕ = set threads len (x .thread) in
-      let ws : List ℕ = set words len (x .word) in
-      let rs : List ℕ = set redos len (x .redo) in
+      rw e (sym (append-nil (waitingOf len keys [] redos)))
+  redos-placed (j ∷ js) len keys redos whole h =
       let e : len + length (j ∷ js) ≡ len + 1 + length js = omega arith in
+      let others : List Entry = map (λ j. keyed (key j) 0 (redo j)) js in
       rw e
-      (redos-placed js (len + 1) ts ws rs (keys-put n len (x .thread) (x .word) (x .redo) threads words redos keys) (omega arith)
-      ∙ ap (λ (es : List Entry). es ++ map f js) (redo-added threads words redos n len x keys (no-undo j) (omega arith))
-      ∙ append-assoc (waitingOf len threads words [] redos) (x ∷ []) (map f js))
+      (redos-placed js (len + 1) (set keys len (key j)) (set redos len (redo j)) (keys-put n len (key j) (redo j) keys redos whole) (omega arith)
+      ∙ ap (λ (es : List Entry). es ++ others) (redo-added keys redos (key j) (redo j) n len whole (omega arith))
+      ∙ append-assoc (waitingOf len keys [] redos) (keyed (key j) 0 (redo j) ∷ []) others)

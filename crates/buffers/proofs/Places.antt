@@ -79,14 +79,14 @@ amended-place w v (e ∷ es) d =
     [ true ↦ refl | false ↦ ap (λ (r : List Entry). e ∷ r) (amended-place w v es d) ]
 
 -- of a word that has an entry, the redo at its place is replaced
-pub amended-at : (w v len : ℕ) (threads words undos redos : List ℕ) (at : ℕ) → len ≤ length redos → at < len
-    → at ≡ indexOf w (waitingOf len threads words undos redos)
-    → waitingOf len threads words undos (set redos at v) ≡ amended w v (waitingOf len threads words undos redos)
-amended-at w v len threads words undos redos at h p e =
-    let f = entryOf threads words undos redos in
+pub amended-at : (w v len : ℕ) (keys undos redos : List ℕ) (at : ℕ) → len ≤ length redos → at < len
+    → at ≡ indexOf w (waitingOf len keys undos redos)
+    → waitingOf len keys undos (set redos at v) ≡ amended w v (waitingOf len keys undos redos)
+amended-at w v len keys undos redos at h p e =
+    let f = entryOf keys undos redos in
     let es : List Entry = listed len f in
     let d : Entry = f at in
-    sym (set-listed len f (entryOf threads words undos (set redos at v)) at (redoAs v d)
+    sym (set-listed len f (entryOf keys undos (set redos at v)) at (redoAs v d)
     (λ l. ap (λ (r : ℕ). redoAs r d) (getD-set-same redos at v 0 (omega arith)))
     (λ k ne. ap (λ (r : ℕ). redoAs r (f k)) (getD-set-other redos at k v 0 ne)))
     ∙ ap (λ (x : Entry). set es at (redoAs v x)) (sym (getD-listed len f at d p))

@@ -1,6 +1,6 @@
 -- An array of the redo buffer that a line's ULog words refill: their numbers are put next after the last, one at a turn.
-use Prim.Native.Nat.{ℕ, _+_, _-_, _≤_, _<_, min}
-use mathlib.Core.Path.{_≡_, refl, sym, ap, _∙_}
+use Prim.Native.Nat.{ℕ, _+_, _-_, _*_, _≤_, _<_, min}
+use mathlib.Core.Path.{_≡_, refl, sym, ap, ap₂, _∙_}
 use mathlib.Core.Bool.{Bool, true, false, _&&_}
 use mathlib.Core.List.{List, [], _∷_, _++_, map, map-append, append-nil}
 use native.Mathlib.Omega.{arith}
@@ -8,19 +8,21 @@ use borrow.Author.Tests.{ltb-true, ltb-false}
 use lib.Dec.{eqb, ltb}
 use lib.ListN.{length, set, drop, length-set, length-map, length-append}
 use lib.Seq.{set-out}
+use Rattle.log.specs.Holding.{Every}
 use Rattle.parts.specs.declared.Entry.{Entry}
 use Rattle.buffers.specs.Arrays.{removed, placed}
 use Rattle.parts.specs.States.{stateAt, ULog}
 use Rattle.parts.specs.Listed.{listed}
-use Rattle.buffers.specs.Waiting.{waitingOf}
+use Rattle.buffers.specs.Waiting.{keyed, waitingOf}
+use Rattle.buffers.proofs.KeyedEntries.{keyed-of}
 use Rattle.buffers.proofs.Removed.{removed-none, length-removed, keys-closed, redos-dropped}
 use Rattle.buffers.proofs.Placed.{placed-none, placed-last, redos-placed}
 use Rattle.buffers.proofs.Waiting.{WholeKeys}
 use Rattle.model.specs.Lists.{keep, upTo}
-use Rattle.model.proofs.Lists.{both-left, both-right}
+use Rattle.model.proofs.Lists.{both-left, both-right, every-kept, every-listed}
 use Rattle.model.proofs.FirstNumbers.{keep-next}
 use Rattle.lines.specs.Walks.{ulogWords}
-use Rattle.buffers.specs.Filled.{refilled, wordsIn, valuesIn}
+use Rattle.buffers.specs.Filled.{refilled, keysIn, valuesIn}
 
 -- with no entry gone nothing moves
 pub none-gone : (gone len : ℕ) (xs ys : List ℕ) → gone ≡ 0 → ys ≡ xs → ys ≡ removed 0 gone len xs
@@ -119,16 +121,23 @@ module _ (f : ℕ → ℕ) (states from : ℕ) (xs₀ : List ℕ) where
 
 -- the redo entry that word j of line i adds
 abbrev pub ulogEntry : ℕ → List ℕ → ℕ → ℕ → Entry
-ulogEntry holder working i j = record { thread = holder; word = wordsIn i j; undo = 0; redo = valuesIn working i j }
+ulogEntry holder working i j = record { thread = holder; word = 8 * i + j; undo = 0; redo = valuesIn working i j }
+
+-- images under two functions that agree on a list
+map-every : {A B : Type 0} (f g : A → B) (xs : List A) → Every (λ x. f x ≡ g x) xs → map f xs ≡ map g xs
+map-every f g [] every = refl
+map-every {A} {B} f g (x ∷ xs) every = ap₂ (λ (y : B) (ys : List B). y ∷ ys) (every .0) (map-every f g xs (every .1))
 
 -- the entries of a redo buffer whose arrays are refilled: those that are not gone, then those of the ULog words
-pub entries-refilled : (len gone states holder i : ℕ) (working threads words redos : List ℕ) → WholeKeys 32 threads words redos → gone ≤ len → len ≤ 32
-    → len - gone + length (ulogWords states) ≤ 32
-    → waitingOf (len - gone + length (ulogWords states)) (refilled (λ _. holder) len gone states threads) (refilled (wordsIn i) len gone states words) []
+pub entries-refilled : (len gone states holder i : ℕ) (working keys redos : List ℕ) → WholeKeys 32 keys redos → gone ≤ len → len ≤ 32
+    → len - gone + length (ulogWords states) ≤ 32 → holder < 128 → i < 64
+    → waitingOf (len - gone + length (ulogWords states)) (refilled (keysIn holder i) len gone states keys) []
     (refilled (valuesIn working i) len gone states redos)
-    ≡ drop gone (waitingOf len threads words [] redos) ++ map (ulogEntry holder working i) (ulogWords states)
-entries-refilled len gone states holder i working threads words redos keys few short places =
-    redos-placed (ulogEntry holder working i) (λ j. refl) 32 (ulogWords states) (len - gone) (removed 0 gone len threads) (removed 0 gone len words)
-    (removed 0 gone len redos) (keys-closed 32 0 gone len threads words redos keys) places
-    ∙ ap (λ (es : List Entry). es ++ map (ulogEntry holder working i) (ulogWords states))
-    (redos-dropped 32 len threads words redos short keys gone few)
+    ≡ drop gone (waitingOf len keys [] redos) ++ map (ulogEntry holder working i) (ulogWords states)
+entries-refilled len gone states holder i working keys redos whole few short places thread line =
+    redos-placed (keysIn holder i) (valuesIn working i) 32 (ulogWords states) (len - gone) (removed 0 gone len keys)
+    (removed 0 gone len redos) (keys-closed 32 0 gone len keys redos whole) places
+    ∙ ap₂ (λ (es fs : List Entry). es ++ fs) (redos-dropped 32 len keys redos short whole gone few)
+    (map-every (λ j. keyed (keysIn holder i j) 0 (valuesIn working i j)) (ulogEntry holder working i) (ulogWords states)
+    (every-kept (λ j. keyed (keysIn holder i j) 0 (valuesIn working i j) ≡ ulogEntry holder working i j) _ (upTo 8)
+    (every-listed _ 8 (λ j. j) (λ j h e. keyed-of holder (8 * i + j) thread (omega arith) 0 (valuesIn working i j)))))

@@ -15,7 +15,7 @@ use Rattle.buffers.specs.Waiting.{entryOf, waitingOf}
 use Rattle.parts.specs.Entries.{indexOf, discarded}
 use Rattle.parts.proofs.Listed.{length-listed, getD-listed, listed-of, listed-ext}
 use Rattle.buffers.proofs.Places.{discarded-at}
-use Rattle.buffers.proofs.Waiting.{WholeKeys, WholeBuffer, entry-eq}
+use Rattle.buffers.proofs.Waiting.{WholeKeys, WholeBuffer, keyed-eq}
 
 -- where the element stood that is at place m after the k elements from `at` on were taken
 abbrev origin : ℕ → ℕ → ℕ → ℕ
@@ -46,24 +46,35 @@ taken {A} n at k f h =
 
 -- elements moved down
 module _ (at gone : ℕ) where
-  -- none, and one more
-  pub moved-none : (xs : List ℕ) → xs ≡ movedDown at gone (at - at) xs
-  unfolding movedDown
-  moved-none xs = let e : at - at ≡ 0 = omega arith in rw e
-
-  pub moved-more : (i : ℕ) (xs : List ℕ) → at ≤ i
-      → set (movedDown at gone (i - at) xs) i (getD (movedDown at gone (i - at) xs) (i + gone) 0) ≡ movedDown at gone (i + 1 - at) xs
-  unfolding movedDown
-  moved-more i xs h =
-      let n : i + 1 - at ≡ suc (i - at) = omega arith in
-      let p : at + (i - at) ≡ i = omega arith in
-      rw (n, p)
-
   -- there are as many as before
   length-moved : (n : ℕ) (xs : List ℕ) → length (movedDown at gone n xs) ≡ length xs
   unfolding movedDown
   length-moved zero xs = refl
   length-moved (suc n) xs = simp length-set (length-moved n xs)
+
+  -- the loop has come to place i of those up to `end`
+  pub record Moving (xs₀ : List ℕ) (end : ℕ) (xs : List ℕ) (i : ℕ) : Type 0 where
+    pub from : at ≤ i
+    pub within : i - at ≤ end - at
+    pub size : length xs ≡ length xs₀
+    pub moved : xs ≡ movedDown at gone (i - at) xs₀
+
+  pub moving-start : (xs : List ℕ) (end : ℕ) → Moving xs end xs at
+  unfolding movedDown
+  moving-start xs end = let e : at - at ≡ 0 = omega arith in record { from = omega arith; within = omega arith; size = refl; moved = rw e }
+
+  pub moving-more : {xs₀ xs : List ℕ} {end i : ℕ} → Moving xs₀ end xs i → i < end → Moving xs₀ end (set xs i (getD xs (i + gone) 0)) (i + 1)
+  unfolding movedDown
+  moving-more {xs₀} {xs} {end} {i} p h =
+      let n : i + 1 - at ≡ suc (i - at) = omega (arith, p .from) in
+      let q : at + (i - at) ≡ i = omega (arith, p .from) in
+      let e = p .moved in
+      record { from = omega (arith, p .from); within = omega (arith, p .from); size = length-set xs i _ ∙ p .size; moved = rw (n, q, e) }
+
+  pub moving-end : {xs₀ xs : List ℕ} {end i : ℕ} (len : ℕ) → Moving xs₀ end xs i → end ≤ i → end ≡ min len (length xs₀) - gone → xs ≡ removed at gone len xs₀
+  moving-end {xs₀} {xs} {end} {i} len p h last =
+      let n : i - at ≡ min len (length xs₀) - gone - at = omega (arith, p .within) in
+      rw n at (p .moved)
 
   -- at a place to which none moved the element stays
   moved-other : (n m : ℕ) (xs : List ℕ) → ((k : ℕ) → k < n → m ≡ at + k → ⊥) → getD (movedDown at gone n xs) m 0 ≡ getD xs m 0
@@ -117,67 +128,53 @@ removed-at at gone len m xs a h l =
     ]
 
 -- the entries that are left in a buffer whose arrays are removed, `us` being the undos
-waiting-closed : (at gone len n : ℕ) (threads words undos redos us : List ℕ) → at + gone ≤ len → len ≤ n → WholeKeys n threads words redos
+waiting-closed : (at gone len n : ℕ) (keys undos redos us : List ℕ) → at + gone ≤ len → len ≤ n → WholeKeys n keys redos
     → ((m : ℕ) → m < len - gone → getD us m 0 ≡ getD undos (origin at gone m) 0)
-    → waitingOf (len - gone) (removed at gone len threads) (removed at gone len words) us (removed at gone len redos)
-    ≡ take at (waitingOf len threads words undos redos) ++ drop (at + gone) (waitingOf len threads words undos redos)
-waiting-closed at gone len n threads words undos redos us a h keys undo =
-    let f = entryOf threads words undos redos in
-    let g = entryOf (removed at gone len threads) (removed at gone len words) us (removed at gone len redos) in
-    let t = keys .threads in
-    let w = keys .words in
-    let r = keys .redos in
-    listed-ext (len - gone) g (λ m. f (origin at gone m))
-    (λ m l.
-    entry-eq (g m) (f (origin at gone m)) (removed-at at gone len m threads a (omega arith) l) (removed-at at gone len m words a (omega arith) l)
-    (undo m l) (removed-at at gone len m redos a (omega arith) l))
+    → waitingOf (len - gone) (removed at gone len keys) us (removed at gone len redos)
+    ≡ take at (waitingOf len keys undos redos) ++ drop (at + gone) (waitingOf len keys undos redos)
+waiting-closed at gone len n keys undos redos us a h whole undo =
+    let f = entryOf keys undos redos in
+    let k = whole .keys in
+    let r = whole .redos in
+    listed-ext (len - gone) (entryOf (removed at gone len keys) us (removed at gone len redos)) (λ m. f (origin at gone m))
+    (λ m l. keyed-eq (removed-at at gone len m keys a (omega arith) l) (undo m l) (removed-at at gone len m redos a (omega arith) l))
     ∙ sym (taken len at gone f a)
 
 -- the k oldest entries of the undo+redo buffer dropped
-pub undos-dropped : (n k len : ℕ) (threads words undos redos : List ℕ) → k ≤ len → len ≤ n → WholeBuffer n threads words undos redos
-    → waitingOf (len - k) (removed 0 k len threads) (removed 0 k len words) (removed 0 k len undos) (removed 0 k len redos)
-    ≡ drop k (waitingOf len threads words undos redos)
-undos-dropped n k len threads words undos redos a b whole =
+pub undos-dropped : (n k len : ℕ) (keys undos redos : List ℕ) → k ≤ len → len ≤ n → WholeBuffer n keys undos redos
+    → waitingOf (len - k) (removed 0 k len keys) (removed 0 k len undos) (removed 0 k len redos) ≡ drop k (waitingOf len keys undos redos)
+undos-dropped n k len keys undos redos a b whole =
     let u = whole .undos in
     let e : 0 + k ≡ k = omega arith in
     rw e at
-    (waiting-closed 0 k len n threads words undos redos (removed 0 k len undos) (omega arith) b (whole .keys)
+    (waiting-closed 0 k len n keys undos redos (removed 0 k len undos) (omega arith) b (whole .both)
     (λ m l. removed-at 0 k len m undos (omega arith) (omega arith) l))
 
 -- the redo buffer, whose entries have no undo
-module _ (n len : ℕ) (threads words redos : List ℕ) (h : len ≤ n) (keys : WholeKeys n threads words redos) where
+module _ (n len : ℕ) (keys redos : List ℕ) (h : len ≤ n) (whole : WholeKeys n keys redos) where
   redos-closed : (at gone : ℕ) → at + gone ≤ len
-      → waitingOf (len - gone) (removed at gone len threads) (removed at gone len words) [] (removed at gone len redos)
-      ≡ take at (waitingOf len threads words [] redos) ++ drop (at + gone) (waitingOf len threads words [] redos)
-  redos-closed at gone a = waiting-closed at gone len n threads words [] redos [] a h keys (λ m l. refl)
+      → waitingOf (len - gone) (removed at gone len keys) [] (removed at gone len redos)
+      ≡ take at (waitingOf len keys [] redos) ++ drop (at + gone) (waitingOf len keys [] redos)
+  redos-closed at gone a = waiting-closed at gone len n keys [] redos [] a h whole (λ m l. refl)
 
   -- its k oldest entries dropped
   pub redos-dropped : (k : ℕ) → k ≤ len
-      → waitingOf (len - k) (removed 0 k len threads) (removed 0 k len words) [] (removed 0 k len redos) ≡ drop k (waitingOf len threads words [] redos)
+      → waitingOf (len - k) (removed 0 k len keys) [] (removed 0 k len redos) ≡ drop k (waitingOf len keys [] redos)
   redos-dropped k a =
       let e : 0 + k ≡ k = omega arith in
       rw e at (redos-closed 0 k (omega arith))
 
   -- the oldest of a word, at its place
-  pub redos-discarded : (w at : ℕ) → at < len → at ≡ indexOf w (waitingOf len threads words [] redos)
-      → waitingOf (len - 1) (removed at 1 len threads) (removed at 1 len words) [] (removed at 1 len redos)
-      ≡ discarded w (waitingOf len threads words [] redos)
-  redos-discarded w at a e = redos-closed at 1 (omega arith) ∙ discarded-at w (waitingOf len threads words [] redos) at e
+  pub redos-discarded : (w at : ℕ) → at < len → at ≡ indexOf w (waitingOf len keys [] redos)
+      → waitingOf (len - 1) (removed at 1 len keys) [] (removed at 1 len redos) ≡ discarded w (waitingOf len keys [] redos)
+  redos-discarded w at a e = redos-closed at 1 (omega arith) ∙ discarded-at w (waitingOf len keys [] redos) at e
 
 -- no field has more or fewer places after the arrays were removed
-pub keys-closed : (n at gone len : ℕ) (threads words redos : List ℕ) → WholeKeys n threads words redos
-    → WholeKeys n (removed at gone len threads) (removed at gone len words) (removed at gone len redos)
-keys-closed n at gone len threads words redos keys =
-    record {
-      threads = length-removed at gone len threads ∙ keys .threads;
-      words = length-removed at gone len words ∙ keys .words;
-      redos = length-removed at gone len redos ∙ keys .redos;
-    }
+pub keys-closed : (n at gone len : ℕ) (keys redos : List ℕ) → WholeKeys n keys redos → WholeKeys n (removed at gone len keys) (removed at gone len redos)
+keys-closed n at gone len keys redos whole =
+    record { keys = length-removed at gone len keys ∙ whole .keys; redos = length-removed at gone len redos ∙ whole .redos }
 
-pub whole-closed : (n at gone len : ℕ) (threads words undos redos : List ℕ) → WholeBuffer n threads words undos redos
-    → WholeBuffer n (removed at gone len threads) (removed at gone len words) (removed at gone len undos) (removed at gone len redos)
-whole-closed n at gone len threads words undos redos whole =
-    record {
-      keys = keys-closed n at gone len threads words redos (whole .keys);
-      undos = length-removed at gone len undos ∙ whole .undos;
-    }
+pub whole-closed : (n at gone len : ℕ) (keys undos redos : List ℕ) → WholeBuffer n keys undos redos
+    → WholeBuffer n (removed at gone len keys) (removed at gone len undos) (removed at gone len redos)
+whole-closed n at gone len keys undos redos whole =
+    record { both = keys-closed n at gone len keys redos (whole .both); undos = length-removed at gone len undos ∙ whole .undos }

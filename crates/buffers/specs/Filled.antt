@@ -3,6 +3,7 @@ use Prim.Native.Nat.{ℕ, _+_, _-_, _*_}
 use mathlib.Core.List.{List, map}
 use lib.ListN.{getD}
 use Rattle.lines.specs.Walks.{ulogWords}
+use Rattle.buffers.specs.Keys.{keyOf}
 use Rattle.buffers.specs.Arrays.{placed, removed}
 
 -- "each ULog word, rising, adds a redo entry of its working value for the line's holder": an array of the redo buffer's
@@ -11,9 +12,9 @@ use Rattle.buffers.specs.Arrays.{placed, removed}
 abbrev pub refilled : (ℕ → ℕ) → ℕ → ℕ → ℕ → List ℕ → List ℕ
 refilled f len gone states xs = placed (len - gone) (map f (ulogWords states)) (removed 0 gone len xs)
 
--- the numbers of the entries of line i: its words, and their working values
-abbrev pub wordsIn : ℕ → ℕ → ℕ
-wordsIn i j = 8 * i + j
+-- the numbers of the entries of line i for a thread: the keys of its words, and their working values
+abbrev pub keysIn : ℕ → ℕ → ℕ → ℕ
+keysIn thread i j = keyOf thread (8 * i + j)
 
 abbrev pub valuesIn : List ℕ → ℕ → ℕ → ℕ
 valuesIn working i j = getD working (8 * i + j) 0

@@ -7,29 +7,16 @@ ghost use lib.ListN.{length, set};
 ghost use Rattle.buffers.specs.Arrays.{removed};
 use lines::less;
 
-pub fn push_thread(threads: &mut [u8; 16], len: usize, gone: usize, thread: u8)
-    ensures { λ _. ⌜ (length (now (threads .entry)) ≡ 16
-        → now (threads .exit) ≡ set (removed 0 gone len (now (threads .entry))) (len - gone) thread) ⌝ }
+pub fn push_key(keys: &mut [u16; 16], len: usize, gone: usize, key: u16)
+    ensures { λ _. ⌜ (length (now (keys .entry)) ≡ 16
+        → now (keys .exit) ≡ set (removed 0 gone len (now (keys .entry))) (len - gone) key) ⌝ }
 {
     if gone != 0 {
-        UndoBuffer::remove_threads(threads, 0, gone, len);
+        UndoBuffer::remove_keys(keys, 0, gone, len);
     }
     let at = less(len, gone);
     if at < 16 {
-        threads[at] = thread;
-    }
-}
-
-pub fn push_word(words: &mut [u16; 16], len: usize, gone: usize, word: u16)
-    ensures { λ _. ⌜ (length (now (words .entry)) ≡ 16
-        → now (words .exit) ≡ set (removed 0 gone len (now (words .entry))) (len - gone) word) ⌝ }
-{
-    if gone != 0 {
-        UndoBuffer::remove_words(words, 0, gone, len);
-    }
-    let at = less(len, gone);
-    if at < 16 {
-        words[at] = word;
+        keys[at] = key;
     }
 }
 

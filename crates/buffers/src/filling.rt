@@ -9,8 +9,9 @@ ghost use lib.ListN.{length};
 ghost use Rattle.buffers.specs.Arrays.{placed};
 ghost use Rattle.parts.specs.States.{stateAt, ULog};
 ghost use Rattle.lines.specs.Walks.{ulogWords};
-ghost use Rattle.buffers.specs.Filled.{refilled, wordsIn, valuesIn};
+ghost use Rattle.buffers.specs.Filled.{refilled, keysIn, valuesIn};
 use crate::RedoBuffer;
+use crate::keys::key;
 use lines::U_LOG;
 use lines::least;
 use lines::less;
@@ -26,32 +27,17 @@ fn adds(states: u16, j: usize, at: usize) -> bool
 }
 
 // The numbers of the new entries put from place `from` on, one for each ULog word of the line: in the array of the
-// threads, of the words and of the redos.
-fn put_threads(threads: &mut [u8; 32], from: usize, states: u16, holder: u8)
-    ensures { λ _. ⌜ (length (now (threads .entry)) ≡ 32
-        → now (threads .exit) ≡ placed from (map (λ _. holder) (ulogWords states)) (now (threads .entry))) ⌝ }
-{
-    let mut at = least(from, 32);
-    let mut j = 0;
-    while j < 8 {
-        if adds(states, j, at) {
-            threads[at] = holder;
-            at += 1;
-        }
-        j += 1;
-    }
-}
-
-fn put_words(words: &mut [u16; 32], from: usize, states: u16, line: usize)
+// keys, and in that of the redos.
+fn put_keys(keys: &mut [u16; 32], from: usize, states: u16, holder: u8, line: usize)
     requires { ⌜ line < 64 ⌝ }
-    ensures { λ _. ⌜ (length (now (words .entry)) ≡ 32
-        → now (words .exit) ≡ placed from (map (wordsIn line) (ulogWords states)) (now (words .entry))) ⌝ }
+    ensures { λ _. ⌜ (length (now (keys .entry)) ≡ 32
+        → now (keys .exit) ≡ placed from (map (keysIn holder line) (ulogWords states)) (now (keys .entry))) ⌝ }
 {
     let mut at = least(from, 32);
     let mut j = 0;
     while j < 8 {
         if adds(states, j, at) {
-            words[at] = (8 * line + j) as u16;
+            keys[at] = key(holder, (8 * line + j) as u16);
             at += 1;
         }
         j += 1;
@@ -75,31 +61,27 @@ fn put_values(values: &mut [u64; 32], from: usize, states: u16, working: &[u64],
     }
 }
 
-// The threads of the redo buffer's 32 places after an eviction: of `len` entries the `gone` oldest are taken, then one
-// is added for each ULog word of the line, by the line's states.
-pub fn refill_threads(threads: &mut [u8; 32], len: usize, gone: usize, states: u16, holder: u8)
-    ensures { λ _. ⌜ (length (now (threads .entry)) ≡ 32
-        → now (threads .exit) ≡ refilled (λ _. holder) len gone states (now (threads .entry))) ⌝ }
-{
-    if gone != 0 {
-        RedoBuffer::remove_threads(threads, 0, gone, len);
-    }
-    put_threads(threads, less(len, gone), states, holder);
-}
-
-// The words. There are 64 lines.
-pub fn refill_words(words: &mut [u16; 32], len: usize, gone: usize, states: u16, line: usize)
-    ensures { λ _. ⌜ (length (now (words .entry)) ≡ 32
-        → now (words .exit) ≡ cond (ltb line 64) (refilled (wordsIn line) len gone states (now (words .entry))) (now
-        (words .entry))) ⌝ }
+// The keys of the redo buffer's 32 places after an eviction: of `len` entries the `gone` oldest are taken, then one is
+// added for each ULog word of the line, by the line's states, for its holder. There are 64 lines.
+pub fn refill_keys(
+    keys: &mut [u16; 32],
+    len: usize,
+    gone: usize,
+    states: u16,
+    holder: u8,
+    line: usize,
+)
+    ensures { λ _. ⌜ (length (now (keys .entry)) ≡ 32
+        → now (keys .exit) ≡ cond (ltb line 64) (refilled (keysIn holder line) len gone states (now (keys .entry))) (now
+        (keys .entry))) ⌝ }
 {
     if 64 <= line {
         return;
     }
     if gone != 0 {
-        RedoBuffer::remove_words(words, 0, gone, len);
+        RedoBuffer::remove_keys(keys, 0, gone, len);
     }
-    put_words(words, less(len, gone), states, line);
+    put_keys(keys, less(len, gone), states, holder, line);
 }
 
 // The redos. Of a line that is not there nothing is added.

@@ -1,6 +1,5 @@
 // The redo buffer: first in, first out. Entries are taken out of it array by array, each array lent by itself.
 use crate::RedoBuffer;
-use crate::removing::remove_u8;
 use crate::removing::remove_u16;
 use crate::removing::remove_u64;
 ghost use mathlib.Core.Path.{_≡_};
@@ -14,23 +13,16 @@ impl RedoBuffer {
     {
         RedoBuffer {
             len: 0,
-            threads: [0; 32],
-            words: [0; 32],
+            keys: [0; 32],
             redos: [0; 32],
         }
     }
 
     // Of `len` entries, `gone` are taken from place `at` on: in each array the numbers of those behind them move down.
-    pub fn remove_threads(threads: &mut [u8; 32], at: usize, gone: usize, len: usize)
-        ensures { λ _. ⌜ now (threads .exit) ≡ removed at gone len (now (threads .entry)) ⌝ }
+    pub fn remove_keys(keys: &mut [u16; 32], at: usize, gone: usize, len: usize)
+        ensures { λ _. ⌜ now (keys .exit) ≡ removed at gone len (now (keys .entry)) ⌝ }
     {
-        remove_u8(threads, at, gone, len);
-    }
-
-    pub fn remove_words(words: &mut [u16; 32], at: usize, gone: usize, len: usize)
-        ensures { λ _. ⌜ now (words .exit) ≡ removed at gone len (now (words .entry)) ⌝ }
-    {
-        remove_u16(words, at, gone, len);
+        remove_u16(keys, at, gone, len);
     }
 
     pub fn remove_values(values: &mut [u64; 32], at: usize, gone: usize, len: usize)

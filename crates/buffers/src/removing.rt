@@ -5,17 +5,6 @@ use lines::less;
 ghost use mathlib.Core.Path.{_≡_};
 ghost use Rattle.buffers.specs.Arrays.{removed};
 
-pub(crate) fn remove_u8(xs: &mut [u8], at: usize, gone: usize, len: usize)
-    ensures { λ _. ⌜ now (xs .exit) ≡ removed at gone len (now (xs .entry)) ⌝ }
-{
-    let end = less(least(len, xs.len()), gone);
-    let mut i = at;
-    while i < end {
-        xs[i] = xs[i + gone];
-        i += 1;
-    }
-}
-
 pub(crate) fn remove_u16(xs: &mut [u16], at: usize, gone: usize, len: usize)
     ensures { λ _. ⌜ now (xs .exit) ≡ removed at gone len (now (xs .entry)) ⌝ }
 {

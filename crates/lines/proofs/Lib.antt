@@ -6,3 +6,4 @@ pub mod LineStores
 pub mod ReleasedLines
 pub mod LineWords
 pub mod NewestWords
+pub mod NewestRecords

@@ -1,12 +1,13 @@
 -- "each ULog word in lines held by t, rising", and its redo record.
-use Prim.Native.Nat.{ℕ, _+_, _*_}
-use mathlib.Core.Bool.{Bool, cond}
+use Prim.Native.Nat.{ℕ, _+_, _*_, _/_, _%_}
+use mathlib.Core.Bool.{Bool, cond, _&&_}
 use mathlib.Core.List.{List, [], _∷_, map}
-use lib.Dec.{eqb}
-use lib.ListN.{getD}
+use lib.Dec.{eqb, leb}
+use lib.ListN.{length, getD}
 use Rattle.log.specs.declared.Record.{Record}
 use Rattle.log.specs.declared.Record.the-variants.{Redo}
 use Rattle.lines.specs.declared.Lines.{Lines}
+use Rattle.lines.specs.Lines.{firstLines}
 use Rattle.parts.specs.States.{stateAt, ULog}
 use Rattle.model.specs.Lists.{keep, upTo}
 -- those among the first n words
@@ -28,3 +29,10 @@ ulogWord w state = cond (eqb state ULog) (w ∷ []) []
 -- "a redo record of the working value" for each of these words
 abbrev pub redosOf : List ℕ → ℕ → List ℕ → List Record
 redosOf working t ws = map (λ w. Redo t w (getD working w 0)) ws
+
+-- "for each ULog word in lines held by t, rising"; none, if so many words are not those of 64 lines or fewer
+unfoldable pub newestRecords : Lines → List ℕ → ℕ → List Record
+newestRecords lines working t =
+    cond (leb (length working) 512 && eqb (length working % 8) 0)
+    (redosOf working t (newestWords (firstLines (length working / 8) lines) t (length working)))
+    []

@@ -1,19 +1,14 @@
 -- What the walks over the lines, and over the words of a line, hand back on every input.
-use Prim.Native.Nat.{ℕ, zero, suc, _+_, _*_, _/_, _%_}
+use Prim.Native.Nat.{ℕ, zero, suc, _+_, _*_}
 use mathlib.Core.Bool.{cond}
-use mathlib.Core.List.{List, [], _∷_}
+use mathlib.Core.List.{List, []}
 use lib.Dec.{eqb, leb}
 use lib.ListN.{length, getD, set}
 use Rattle.log.specs.Stores.{Store}
 use Rattle.parts.specs.Lines.{nobody}
-use Rattle.parts.specs.States.{stateAt, withState, URLog, ULog}
+use Rattle.parts.specs.States.{stateAt, ULog}
 use Rattle.model.specs.Lists.{keep, upTo}
 use Rattle.model.specs.Steps.{lineWrites}
-
--- the states of all lines with these words URLog, one after the other
-unfoldable pub statesLogged : List ℕ → List ℕ → List ℕ
-statesLogged [] ss = ss
-statesLogged (w ∷ ws) ss = statesLogged ws (set ss (w / 8) (withState (getD ss (w / 8) 0) (w % 8) URLog))
 
 -- the ULog words of a line, rising, by the line's states
 abbrev pub ulogWords : ℕ → List ℕ

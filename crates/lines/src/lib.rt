@@ -1,5 +1,6 @@
-// The lines, and what is done to them: the two-bit states of their words read and replaced, ULog and Dirty words looked
-// for, lines stored home and released. Each function takes every input; what is no line or word changes nothing.
+// The lines, and what is done to them: the two-bit states of their words read and replaced, Dirty words looked for,
+// ULog words counted and logged, lines stored home and released. Each function takes every input; what is no line or
+// word changes nothing.
 ghost use mathlib.Core.Path.{_≡_};
 ghost use Rattle.lines.specs.Lines.{freeLines};
 
@@ -7,17 +8,18 @@ mod home_stores;
 mod marking;
 mod numbers;
 mod releasing;
+mod ulog_records;
 mod ulog_words;
 mod word_states;
 
 pub use home_stores::has_dirty;
 pub use home_stores::store_line;
 pub use marking::mark;
-pub use marking::mark_logged;
 pub use numbers::least;
 pub use numbers::less;
 pub use releasing::release_holders;
 pub use releasing::release_states;
+pub use ulog_records::append_newest;
 pub use ulog_words::count_newest;
 pub use ulog_words::count_ulog;
 pub use word_states::CLEAN;

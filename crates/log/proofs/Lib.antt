@@ -6,5 +6,6 @@ pub mod Coding
 pub mod Vectors
 pub mod Holding
 pub mod Appending
+pub mod Appended
 pub mod Searching
 pub mod Readings

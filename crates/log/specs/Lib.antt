@@ -3,3 +3,4 @@ pub mod Stores
 pub mod Layout
 pub mod Region
 pub mod Holding
+pub mod Appended

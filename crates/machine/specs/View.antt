@@ -14,7 +14,7 @@ use Rattle.machine.specs.declared.Answer.{Answer}
 use Rattle.machine.specs.declared.Begun.{Begun}
 
 abbrev pub view : State → Machine
-view s = steps.view (s .fields)
+view s = steps.view (s .machine)
 
 -- an answer with the buffers after the step
 abbrev pub shown : Answer → List ℕ → List ℕ → List ℕ → Outcome
@@ -34,10 +34,10 @@ opening o = record { answer = o .answer; machine = o .machine }
 
 -- the lost state and a fresh one, each place of it
 abbrev pub lostState : State
-lostState = record { fields = lostFields }
+lostState = record { machine = lostFields }
 
 abbrev pub freshState : ℕ → ℕ → ℕ → State
-freshState words slots tail = record { fields = freshFields words slots tail }
+freshState words slots tail = record { machine = freshFields words slots tail }
 
 -- the state that a step starts from, and that it hands back if it is refused
 abbrev pub takenState : Step → State → State

@@ -1,12 +1,12 @@
 // The step machine of document 01: its state, with a method for each of the nine steps and one for a step given as a
 // value. Each hands back what the model's definition of the step gives.
-use state::Fields;
+use state::Machine;
 
 mod methods;
 
-// The state. The steps themselves are functions of its fields, in crate `steps`.
+// The state. The steps themselves are functions of the machine in it, in crate `steps`.
 pub struct State {
-    pub fields: Fields,
+    pub machine: Machine,
 }
 
 // What a step hands back: the answer's number, the count left, and the state.

@@ -13,24 +13,24 @@ use crate::Answer;
 use crate::Begun;
 use crate::State;
 use parts::Step;
-use state::Made;
+use state::Outcome;
 
-// What a step made, with the state around its fields.
-fn answer(made: Made) -> Answer
+// What a step hands back, with the state around the machine.
+fn answer(made: Outcome) -> Answer
     ensures { λ (r : Answer). ⌜ r ≡ record {
       answer = made .answer;
       left = made .left;
       state = record {
-        fields = made
+        machine = made
             .state;
       };
     } ⌝ }
 {
-    let fields = made.state;
+    let machine = made.state;
     Answer {
         answer: made.answer,
         left: made.left,
-        state: State { fields },
+        state: State { machine },
     }
 }
 
@@ -40,7 +40,7 @@ impl State {
         ensures { λ (r : State). ⌜ r ≡ lostState ⌝ }
     {
         State {
-            fields: state::lost(),
+            machine: state::lost(),
         }
     }
 
@@ -57,8 +57,8 @@ impl State {
             ≡ stepped step supply (view self) (memory (now (home .entry)) (now (working .entry)) (now (log .entry))) ⌝ }
         ensures { λ (r : Answer). ⌜ HandedBack (takenState step self) r ⌝ }
     {
-        let fields = self.fields;
-        answer(steps::perform(fields, step, home, working, log, supply))
+        let machine = self.machine;
+        answer(steps::perform(machine, step, home, working, log, supply))
     }
 
     // Lent no buffers and no count: what it hands back is the same whatever these are.
@@ -211,7 +211,7 @@ impl State {
         ensures { λ (r : Answer). ⌜ HandedBack lostState r ⌝ }
         ensures { λ (r : Answer). ⌜ (r .answer ≡ 0
             → r .state ≡ freshState (length (now (home .entry))) (slotsOf (now (log .entry)))
-            (r .state .fields .tail)) ⌝ }
+            (r .state .machine .tail)) ⌝ }
     {
         answer(recovery::recover(home, working, log, supply))
     }

@@ -17,7 +17,8 @@ use Rattle.model.specs.Steps.{beginRows, beginNext}
 use Rattle.model.specs.Step.{begin, store, logUndo, logRedo, evict, writeBack, commit, deleteOldest, recover}
 use Rattle.model.specs.Step.{Step, takesState, firstRows, ownRows, workOf, planOf, taken, stepped}
 use Rattle.model.proofs.Performing.{cleared, performed-all, performed-cut}
-use Rattle.model.proofs.Rows.{None, IsRefusal, Refusals, none-apply, uncut, number-first, number-then, unless-refused, unless-none, own-refusals, first-refusals}
+use Rattle.model.proofs.Rows.{None, IsRefusal, Refusals, none-apply, uncut, number-first, number-then, unless-refused, unless-none}
+use Rattle.model.proofs.Rows.{own-refusals, first-refusals}
 
 -- a step that rows before its own can refuse takes a state
 pub takes-first : (s : Step) (m : Machine) (mem : Memory) → (numberOf (firstRows s m mem) ≡ 0 → ⊥) → takesState s ≡ true

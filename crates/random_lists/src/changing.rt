@@ -9,10 +9,13 @@ use crate::numbers::sum;
 use crate::setup::Plan;
 use buffers::RedoBuffer;
 use buffers::UndoBuffer;
+use buffers::key;
+use buffers::key_thread;
+use buffers::key_word;
 use lines::Lines;
 use lines::with_state;
 use log::NUMBERS;
-use state::Fields;
+use state::Machine;
 
 // A number below 2^16
 fn short(n: u64) -> u16 {
@@ -25,7 +28,7 @@ fn byte(n: u64) -> u8 {
 }
 
 // The cases 13 to 17
-fn limits(mut state: Fields, case: u64, a: u64) -> Fields {
+fn limits(mut state: Machine, case: u64, a: u64) -> Machine {
     let w = state.words as u64;
     let l = state.slots as u64;
     let head = state.head;
@@ -49,7 +52,7 @@ fn limits(mut state: Fields, case: u64, a: u64) -> Fields {
 }
 
 // The cases 18 to 21, of word w
-fn lines(mut state: Fields, case: u64, w: u64, b: u64) -> Fields {
+fn lines(mut state: Machine, case: u64, w: u64, b: u64) -> Machine {
     let mut lines = state.lines;
     let at = (w / 8 % 64) as usize;
     match case {
@@ -64,7 +67,7 @@ fn lines(mut state: Fields, case: u64, w: u64, b: u64) -> Fields {
 }
 
 // The cases 22 and 23
-fn threads(mut state: Fields, case: u64, threads: u64, b: u64) -> Fields {
+fn threads(mut state: Machine, case: u64, threads: u64, b: u64) -> Machine {
     let t = either(case == 22, rest(b, threads), b);
     if (case == 22) | (case == 23) {
         state.opened[(t % 8) as usize] = case == 23;
@@ -72,27 +75,30 @@ fn threads(mut state: Fields, case: u64, threads: u64, b: u64) -> Fields {
     state
 }
 
-// The threads and the words of a buffer's entries
+// The keys of a buffer's entries
 struct Keys {
     len: usize,
-    threads: [u8; 32],
-    words: [u16; 32],
+    keys: [u16; 32],
+}
+
+// The key of a thread and a word. A thread above 127 and a word above 511 have none: thread 127 stands for them, which
+// makes a state as inconsistent.
+fn key_of(thread: u64, word: u64) -> u16 {
+    let known = (thread < 128) & (word < 512);
+    key(byte(either(known, thread, 127)), short(word))
 }
 
 // Those of the undo+redo buffer
 fn undo_keys(buffer: UndoBuffer) -> Keys {
-    let mut threads = [0; 32];
-    let mut words = [0; 32];
+    let mut keys = [0; 32];
     let mut i = 0;
     while i < 16 {
-        threads[i] = buffer.threads[i];
-        words[i] = buffer.words[i];
+        keys[i] = buffer.keys[i];
         i += 1;
     }
     Keys {
         len: buffer.len,
-        threads,
-        words,
+        keys,
     }
 }
 
@@ -100,8 +106,7 @@ fn undo_keys(buffer: UndoBuffer) -> Keys {
 fn with_undo_keys(mut buffer: UndoBuffer, keys: Keys) -> UndoBuffer {
     let mut i = 0;
     while i < 16 {
-        buffer.threads[i] = keys.threads[i];
-        buffer.words[i] = keys.words[i];
+        buffer.keys[i] = keys.keys[i];
         i += 1;
     }
     buffer
@@ -109,31 +114,32 @@ fn with_undo_keys(mut buffer: UndoBuffer, keys: Keys) -> UndoBuffer {
 
 // Those of the redo buffer
 fn redo_keys(buffer: RedoBuffer) -> Keys {
-    let threads = buffer.threads;
-    let words = buffer.words;
+    let keys = buffer.keys;
     Keys {
         len: buffer.len,
-        threads,
-        words,
+        keys,
     }
 }
 
 // The cases 25 and 28: the word of entry e
 fn with_word(mut keys: Keys, e: u64, b: u64, w: u64) -> Keys {
     let next = rest(sum(e, 1), keys.len as u64);
-    let g = keys.words[(next % 32) as usize];
-    keys.words[(e % 32) as usize] = short(one_of(b, w, 65535, rest(b / 4, w), g as u64));
+    let g = key_word(keys.keys[(next % 32) as usize]);
+    let at = (e % 32) as usize;
+    let word = one_of(b, w, 65535, rest(b / 4, w), g as u64);
+    keys.keys[at] = key_of(key_thread(keys.keys[at]) as u64, word);
     keys
 }
 
 // The thread of entry e and, where `all`, of each entry "whose word is in line l"
 fn with_thread(mut keys: Keys, e: u64, all: bool, h: u8) -> Keys {
-    let line = keys.words[(e % 32) as usize] / 8;
+    let line = key_word(keys.keys[(e % 32) as usize]) / 8;
     let mut i = 0;
     while i < 32 {
-        let same = (i < keys.len) & (keys.words[i] / 8 == line);
+        let word = key_word(keys.keys[i]);
+        let same = (i < keys.len) & (word / 8 == line);
         if (i as u64 == e) | (all & same) {
-            keys.threads[i] = h;
+            keys.keys[i] = key_of(h as u64, word as u64);
         }
         i += 1;
     }
@@ -159,7 +165,7 @@ fn entries(keys: Keys, t: Disturbance, w: u64) -> Keys {
 // "the holder of line l", in the cases 26 and 29
 fn holder(mut lines: Lines, keys: Keys, t: Disturbance) -> Lines {
     let e = rest(t.a, keys.len as u64);
-    let word = keys.words[(e % 32) as usize];
+    let word = key_word(keys.keys[(e % 32) as usize]);
     if t.case % 3 == 2 {
         lines.holders[(word / 8 % 64) as usize] = thread_of(t.case, t.b);
     }
@@ -167,7 +173,7 @@ fn holder(mut lines: Lines, keys: Keys, t: Disturbance) -> Lines {
 }
 
 // The cases 24 to 26
-fn undos(mut state: Fields, t: Disturbance, w: u64) -> Fields {
+fn undos(mut state: Machine, t: Disturbance, w: u64) -> Machine {
     let buffer = state.undos;
     let lines = state.lines;
     if (buffer.len == 0) | ((t.case < 24) | (t.case > 26)) {
@@ -182,7 +188,7 @@ fn undos(mut state: Fields, t: Disturbance, w: u64) -> Fields {
 }
 
 // The cases 27 to 29
-fn redos(mut state: Fields, t: Disturbance, w: u64) -> Fields {
+fn redos(mut state: Machine, t: Disturbance, w: u64) -> Machine {
     let mut buffer = state.redos;
     let lines = state.lines;
     if (buffer.len == 0) | (t.case < 27) {
@@ -190,10 +196,8 @@ fn redos(mut state: Fields, t: Disturbance, w: u64) -> Fields {
     }
     let keys = redo_keys(buffer);
     let next = entries(keys, t, w);
-    let threads = next.threads;
-    let words = next.words;
-    buffer.threads = threads;
-    buffer.words = words;
+    let changed = next.keys;
+    buffer.keys = changed;
     let held = holder(lines, keys, t);
     state.redos = buffer;
     state.lines = held;
@@ -201,7 +205,7 @@ fn redos(mut state: Fields, t: Disturbance, w: u64) -> Fields {
 }
 
 // Each of them changes the state in its own cases.
-pub(crate) fn changed(state: Fields, t: Disturbance, plan: Plan) -> Fields {
+pub(crate) fn changed(state: Machine, t: Disturbance, plan: Plan) -> Machine {
     if (t.case < 13) | (t.case > 29) {
         return state;
     }

@@ -74,12 +74,12 @@ impl UnderWay {
     fn disturbed(mut self, log: &mut [u64]) -> UnderWay {
         let plan = self.plan;
         let was = self.state;
-        let fields = was.fields;
+        let machine = was.machine;
         let old = self.disturbance;
-        let disturbance = old.patched(log, plan.l, fields.head, fields.tail);
-        let next = changed(fields, disturbance, plan);
+        let disturbance = old.patched(log, plan.l, machine.head, machine.tail);
+        let next = changed(machine, disturbance, plan);
         self.disturbance = disturbance;
-        let state = State { fields: next };
+        let state = State { machine: next };
         self.state = state;
         self
     }

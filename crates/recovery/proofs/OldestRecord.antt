@@ -20,11 +20,11 @@ use Rattle.parts.specs.declared.Verdict.the-variants.{Nothing, Open, Needed, Sp
 use Rattle.lines.specs.Lines.{lineAt, firstLines}
 use Rattle.parts.specs.Lines.{freeLine}
 use Rattle.parts.proofs.Listed.{length-listed}
-use Rattle.model.specs.Machine.{Machine, Memory, lineOf, dirtyIn}
+use Rattle.model.specs.Machine.{Machine as Model, Memory, lineOf, dirtyIn}
 use Rattle.model.specs.Readings.{records, closed}
 use Rattle.model.specs.Verdict.{judged, verdictOn, verdict}
 use Rattle.lines.proofs.LinesInUse.{line-in-use}
-use Rattle.state.specs.declared.Fields.{Fields}
+use Rattle.state.specs.declared.Machine.{Machine}
 use Rattle.state.specs.View.{view}
 
 -- past the last flag there is none
@@ -48,19 +48,19 @@ flag-of n ls i =
     ]
 
 -- the dirty flag of a word's line, by the array of the flags
-pub word-flag : (s : Fields) (words w : ℕ) (flags : List Bool) (b : Bool) → s .words ≡ words → s .lines .dirty ≡ flags
+pub word-flag : (s : Machine) (words w : ℕ) (flags : List Bool) (b : Bool) → s .words ≡ words → s .lines .dirty ≡ flags
     → (ltb (w / 8) (words / 8) && ltb (w / 8) (length flags)) ≡ b → cond b (getD flags (w / 8) false) false ≡ dirtyIn (view s .lines) w
 unfolding dirtyIn
 word-flag s words w flags b e f t = rw (← t, ← e, ← f) (flag-of (s .words / 8) (s .lines) (w / 8))
 
 -- the verdict on a data record, by the code's two tests
-pub judged-by : (m : Machine) (t w : ℕ) (later : List Reading) (shut dirty : Bool) → shut ≡ closed t (records later)
+pub judged-by : (m : Model) (t w : ℕ) (later : List Reading) (shut dirty : Bool) → shut ≡ closed t (records later)
     → dirty ≡ dirtyIn (m .lines) w → cond shut (cond dirty Needed Spare) Open ≡ judged m t w later
 unfolding judged
 judged-by m t w later shut dirty e f = rw (← e, ← f)
 
 -- the verdict on what was read, by the record's type
-pub verdict-read : (m : Machine) (later : List Reading) (x : Reading) (r s : Record) (v : Verdict) → x ≡ Good r → r ≡ s
+pub verdict-read : (m : Model) (later : List Reading) (x : Reading) (r s : Record) (v : Verdict) → x ≡ Good r → r ≡ s
     → v ≡ verdictOn m (Good s) later → v ≡ verdictOn m x later
 verdict-read m later x r s v e f g = g ∙ sym (ap (λ (y : Reading). verdictOn m y later) (e ∙ ap Good f))
 
@@ -77,7 +77,7 @@ module _ (head tail words : ℕ) (log : List ℕ) where
   later-none from h e = read-none words log from tail (omega arith) ∙ sym (read-none words log (head + 1) tail (omega arith))
 
   -- A state and buffers that have these.
-  module _ (s : Fields) (mem : Memory) (h : s .head ≡ head) (t : s .tail ≡ tail) (w : s .words ≡ words) (g : mem .log ≡ log) where
+  module _ (s : Machine) (mem : Memory) (h : s .head ≡ head) (t : s .tail ≡ tail) (w : s .words ≡ words) (g : mem .log ≡ log) where
     -- an empty log
     pub verdict-nothing : head ≡ tail → Nothing ≡ verdict (view s) mem
     unfolding verdict

@@ -16,7 +16,7 @@ use Rattle.log.proofs.Sizes.{sized}
 use Rattle.log.proofs.Holding.{size-of-head}
 use Rattle.model.specs.Lists.{any}
 use Rattle.model.specs.Consistent.{isWidth}
-use Rattle.model.specs.Machine.{Machine, Memory, lostMachine, freshMachine}
+use Rattle.model.specs.Machine.{Machine as Model, Memory, lostMachine, freshMachine}
 use Rattle.model.specs.Plan.{inHome, inLog, putsOf, written, carriedOut}
 use Rattle.model.specs.Readings.{isBad}
 use Rattle.model.specs.Refusals.{numberOf, wrongLengths}
@@ -27,8 +27,8 @@ use Rattle.model.proofs.Records.{both-fail}
 use Rattle.model.proofs.Rows.{None, none-apply, uncut, number-first, refusedAs, allowed, guard, own-refusals}
 use Rattle.model.proofs.Performing.{puts-then, puts-home, puts-head, written-both, cleared}
 use Rattle.model.proofs.Outcomes.{refused-own, way-done, way-cut}
-use Rattle.state.specs.declared.Fields.{Fields}
-use Rattle.state.specs.declared.Made.{Made}
+use Rattle.state.specs.declared.Machine.{Machine}
+use Rattle.state.specs.declared.Outcome.{Outcome}
 use Rattle.state.specs.View.{view, memory, shown}
 use Rattle.state.specs.HandedBack.{lostFields, freshFields, HandedBack}
 use Rattle.state.proofs.HandedBack.{lost-view, fresh-view, refused-back, cut-back, done-back}
@@ -119,7 +119,7 @@ module _ (mem : Memory) where
     damage b e = rw (unread-none .0, unread-none .1 .0, ← e)
 
   -- What the code hands back and leaves is what the step comes to, its state the lost one or, if it is done, a fresh one.
-  abbrev Comes : ℕ → Made → List ℕ → List ℕ → List ℕ → Type 0
+  abbrev Comes : ℕ → Outcome → List ℕ → List ℕ → List ℕ → Type 0
   Comes c r home working log =
       (shown r home working log ≡ stepped recover c lostMachine mem) ×
       (HandedBack lostFields r ×
@@ -127,26 +127,26 @@ module _ (mem : Memory) where
 
   module _ (c : ℕ) where
     -- refused: all is as it was
-    refused-with : (n : ℕ) → n ≡ numberOf (recoverRows mem) → (n ≡ 0 → ⊥) → (r : Made)
+    refused-with : (n : ℕ) → n ≡ numberOf (recoverRows mem) → (n ≡ 0 → ⊥) → (r : Outcome)
         → r ≡ record { answer = n; left = c; state = lostFields } → Comes c r (mem .home) (mem .working) (mem .log)
     unfolding numberOf
     refused-with n e some r f = (
-      ap (λ (x : Made). shown x (mem .home) (mem .working) (mem .log)) f
-          ∙ ap (λ (m : Machine). record { answer = n; left = c; machine = m; memory = mem }) lost-view
+      ap (λ (x : Outcome). shown x (mem .home) (mem .working) (mem .log)) f
+          ∙ ap (λ (m : Model). record { answer = n; left = c; machine = m; memory = mem }) lost-view
           ∙ refused-own recover c lostMachine mem refl n e some refl,
       (
         refused-back lostFields r n c (uncut (recoverRows mem) (own-refusals recover lostMachine mem) n e) f,
-        λ z. absurd (some (sym (ap (λ (x : Made). x .answer) f) ∙ z)),
+        λ z. absurd (some (sym (ap (λ (x : Outcome). x .answer) f) ∙ z)),
       ),
     )
 
-    pub recover-unread : (n : ℕ) → n ≡ numberOf (unreadableRows mem) → (n ≡ 0 → ⊥) → (r : Made)
+    pub recover-unread : (n : ℕ) → n ≡ numberOf (unreadableRows mem) → (n ≡ 0 → ⊥) → (r : Outcome)
         → r ≡ record { answer = n; left = c; state = lostFields } → Comes c r (mem .home) (mem .working) (mem .log)
     recover-unread n e some = refused-with n (number-first (unreadableRows mem) _ n e some) some
 
     -- The log is read, and replayed.
     module _ (zero : 0 ≡ numberOf (unreadableRows mem)) (d : Replayed)
-        (out : d ≡ replayed (length (mem .home)) c (mem .log)) (r : Made) (home working log : List ℕ)
+        (out : d ≡ replayed (length (mem .home)) c (mem .log)) (r : Outcome) (home working log : List ℕ)
         (stores : home ≡ storedUnder c (mem .home) (replayStores (length (mem .home)) (mem .log))) where
       bad : d .bad ≡ any isBad (recordsOf (length (mem .home)) (mem .log))
       bad = ap (λ (x : Replayed). x .bad) out
@@ -186,11 +186,11 @@ module _ (mem : Memory) where
             let e = one zero in
             let h = less in
             let size = made-size 0 in (
-              ap (λ (x : Made). shown x home working log) f
-                  ∙ ap (λ (m : Machine). record { answer = 255; left = 0; machine = m; memory = memory home working log }) lost-view
+              ap (λ (x : Outcome). shown x home working log) f
+                  ∙ ap (λ (m : Model). record { answer = 255; left = 0; machine = m; memory = memory home working log }) lost-view
                   ∙ (rw (buffers working, w)
                   (sym (way-cut recover c lostMachine mem refl 0 none-bad refl _ _ _ refl (omega arith)))),
-              (cut-back lostFields r f, λ z. absurd (omega (arith, ap (λ (x : Made). x .answer) f, z))),
+              (cut-back lostFields r f, λ z. absurd (omega (arith, ap (λ (x : Outcome). x .answer) f, z))),
             )
 
         -- done: working becomes home, and the state is fresh
@@ -210,14 +210,14 @@ module _ (mem : Memory) where
             let same : working ≡ recoverWorking mem = w ∙ stores ∙ (rw all-stores all) in
             let fresh : view (r .state) ≡ freshMachine (length (mem .home)) slots (d .tail) =
             ap view h ∙ fresh-view (length (mem .home)) slots (d .tail) (fits-unread zero .width) in
-            let end : r .state .tail ≡ d .tail = ap (λ (x : Fields). x .tail) h in (
+            let end : r .state .tail ≡ d .tail = ap (λ (x : Machine). x .tail) h in (
               rw (f, left, fresh, size, tail, buffers working, same, take-all c puts fits)
                   (sym (way-done recover c lostMachine mem refl 0 none-bad refl _ _ _ refl fits)),
               (done-back lostFields r f, λ z. h ∙ rw (end, size)),
             )
 
 -- "takes no state": a recovery is the same from any
-pub recover-any : (c : ℕ) (m : Machine) (mem : Memory) → stepped recover c m mem ≡ stepped recover c lostMachine mem
+pub recover-any : (c : ℕ) (m : Model) (mem : Memory) → stepped recover c m mem ≡ stepped recover c lostMachine mem
 unfolding stepped carriedOut planOf
 recover-any c m mem =
     elim (guard (recoverRows mem) (workOf recover m mem) (own-refusals recover m mem)) [

@@ -16,9 +16,9 @@ use lines::Lines;
 use log::NUMBERS;
 use state::DAMAGED;
 use state::DONE;
-use state::Fields;
 use state::HEAD;
-use state::Made;
+use state::Machine;
+use state::Outcome;
 use state::SIZE;
 use state::cut;
 use state::lost;
@@ -51,10 +51,10 @@ fn unreadable(home: &[u64], working: &[u64], log: &[u64]) -> u64
 }
 
 // "a refused recover hands back a dark state"
-fn refused(number: u64, supply: u64) -> Made
-    ensures { λ (r : Made). ⌜ r ≡ record { answer = number; left = supply; state = lostFields } ⌝ }
+fn refused(number: u64, supply: u64) -> Outcome
+    ensures { λ (r : Outcome). ⌜ r ≡ record { answer = number; left = supply; state = lostFields } ⌝ }
 {
-    Made {
+    Outcome {
         answer: number,
         left: supply,
         state: lost(),
@@ -62,10 +62,10 @@ fn refused(number: u64, supply: u64) -> Made
 }
 
 // "the new state has empty buffers, all Clean, unheld, not dirty, no transaction"
-fn fresh_state(words: u16, slots: u16, tail: u64) -> Fields
-    ensures { λ (r : Fields). ⌜ r ≡ freshFields words slots tail ⌝ }
+fn fresh_state(words: u16, slots: u16, tail: u64) -> Machine
+    ensures { λ (r : Machine). ⌜ r ≡ freshFields words slots tail ⌝ }
 {
-    Fields {
+    Machine {
         lost: false,
         words: words,
         slots: slots,
@@ -79,12 +79,12 @@ fn fresh_state(words: u16, slots: u16, tail: u64) -> Fields
 }
 
 // A recovery: refused, cut or done. It takes no state.
-pub fn recover(home: &mut [u64], working: &mut [u64], log: &mut [u64], supply: u64) -> Made
-    ensures { λ (r : Made). ⌜ shown r (now (home .exit)) (now (working .exit)) (now (log .exit))
+pub fn recover(home: &mut [u64], working: &mut [u64], log: &mut [u64], supply: u64) -> Outcome
+    ensures { λ (r : Outcome). ⌜ shown r (now (home .exit)) (now (working .exit)) (now (log .exit))
         ≡ stepped recoverStep supply lostMachine (memory (now (home .entry)) (now (working .entry)) (now
         (log .entry))) ⌝ }
-    ensures { λ (r : Made). ⌜ HandedBack lostFields r ⌝ }
-    ensures { λ (r : Made). ⌜ (r .answer ≡ 0
+    ensures { λ (r : Outcome). ⌜ HandedBack lostFields r ⌝ }
+    ensures { λ (r : Outcome). ⌜ (r .answer ≡ 0
         → r .state ≡ freshFields (length (now (home .entry))) (slotsOf (now (log .entry))) (r .state .tail)) ⌝ }
 {
     let number = unreadable(home, working, log);
@@ -102,7 +102,7 @@ pub fn recover(home: &mut [u64], working: &mut [u64], log: &mut [u64], supply: u
         return cut(working);
     }
     copy(working, home);
-    Made {
+    Outcome {
         answer: DONE,
         left: left,
         state: fresh_state(words, slots, replayed.tail),

@@ -4,7 +4,7 @@ ghost use Prim.Native.Nat.{_-_};
 ghost use Rattle.log.specs.Region.{readFrom};
 ghost use Rattle.model.specs.Machine.{Memory, dirtyIn};
 ghost use Rattle.model.specs.Verdict.{judged, verdictOn, verdict};
-ghost use Rattle.state.specs.declared.Fields.{Fields};
+ghost use Rattle.state.specs.declared.Machine.{Machine};
 ghost use Rattle.state.specs.View.{view};
 use crate::commits::has_commit;
 use log::Reading;
@@ -13,7 +13,7 @@ use parts::Verdict;
 
 // The dirty flag of a word's line; past the lines in use there is none.
 fn dirty_of(dirty: &[bool], words: u16, word: u16) -> bool
-    ensures { λ r. ⌜ ((s : Fields) → s .words ≡ words → s .lines .dirty ≡ now (dirty .entry)
+    ensures { λ r. ⌜ ((s : Machine) → s .words ≡ words → s .lines .dirty ≡ now (dirty .entry)
         → r ≡ dirtyIn (view s .lines) word) ⌝ }
 {
     let at = (word / 8) as usize;
@@ -35,7 +35,7 @@ fn judge(
     thread: u8,
     word: u16,
 ) -> Verdict
-    ensures { λ (r : Verdict). ⌜ ((s : Fields) → s .words ≡ words → s .lines .dirty ≡ now (dirty .entry)
+    ensures { λ (r : Verdict). ⌜ ((s : Machine) → s .words ≡ words → s .lines .dirty ≡ now (dirty .entry)
         → r ≡ judged (view s) thread word (readFrom (to - from) words (now (log .entry)) from)) ⌝ }
 {
     if !has_commit(log, from, to, words, thread) {
@@ -56,7 +56,7 @@ fn verdict_on(
     words: u16,
     oldest: Reading,
 ) -> Verdict
-    ensures { λ (r : Verdict). ⌜ ((s : Fields) → s .words ≡ words → s .lines .dirty ≡ now (dirty .entry)
+    ensures { λ (r : Verdict). ⌜ ((s : Machine) → s .words ≡ words → s .lines .dirty ≡ now (dirty .entry)
         → r ≡ verdictOn (view s) oldest (readFrom (to - from) words (now (log .entry)) from)) ⌝ }
 {
     match oldest {
@@ -80,7 +80,7 @@ fn verdict_on(
 
 // On the oldest record of a log that may be empty.
 pub fn oldest_verdict(head: u64, tail: u64, words: u16, dirty: &[bool; 64], log: &[u64]) -> Verdict
-    ensures { λ (r : Verdict). ⌜ ((s : Fields) (mem : Memory) → s .head ≡ head → s .tail ≡ tail → s .words ≡ words
+    ensures { λ (r : Verdict). ⌜ ((s : Machine) (mem : Memory) → s .head ≡ head → s .tail ≡ tail → s .words ≡ words
         → s .lines .dirty ≡ now (dirty .entry) → mem .log ≡ now (log .entry) → r ≡ verdict (view s) mem) ⌝ }
 {
     if head == tail {

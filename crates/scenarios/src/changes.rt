@@ -4,9 +4,10 @@ use crate::command::AMPLE;
 use crate::lists::least;
 use crate::lists::within;
 use crate::states::same_state;
+use buffers::key;
 use machine::State;
 use state::DONE;
-use state::Fields;
+use state::Machine;
 
 // A number as one of 16 bits, at most 65535.
 fn short(n: u64) -> u16 {
@@ -43,14 +44,14 @@ fn recovery(words: u64, log: u64) -> Reply {
 }
 
 impl Bench {
-    // The state by its fields, and another state in its place.
-    fn fields(self) -> Fields {
+    // The machine of the state, and another in its place.
+    fn machine(self) -> Machine {
         let state = self.state;
-        state.fields
+        state.machine
     }
 
-    fn with(mut self, fields: Fields) -> Bench {
-        let state = State { fields };
+    fn with(mut self, machine: Machine) -> Bench {
+        let state = State { machine };
         self.state = state;
         self
     }
@@ -81,7 +82,7 @@ impl Bench {
 
     // Another W, L, head and tail of the state.
     pub(crate) fn limits(self, numbers: [u64; 4]) -> Bench {
-        let mut state = self.fields();
+        let mut state = self.machine();
         state.words = short(numbers[0]);
         state.slots = short(numbers[1]);
         state.head = numbers[2];
@@ -91,7 +92,7 @@ impl Bench {
 
     // Another holder and other word states of a line.
     pub(crate) fn holds(self, line: u64, holder: u64, states: u64) -> Bench {
-        let mut state = self.fields();
+        let mut state = self.machine();
         let mut lines = state.lines;
         let i = least(line, 63);
         lines.holders[i] = byte(holder);
@@ -102,12 +103,11 @@ impl Bench {
 
     // One more undo+redo entry; past the last place only the length grows.
     pub(crate) fn adds_undo(self, thread: u64, word: u64) -> Bench {
-        let mut state = self.fields();
+        let mut state = self.machine();
         let mut undos = state.undos;
         let at = least(undos.len as u64, 32);
         if at < 16 {
-            undos.threads[at] = byte(thread);
-            undos.words[at] = short(word);
+            undos.keys[at] = key(byte(thread), short(word));
         }
         undos.len = at + 1;
         state.undos = undos;
@@ -116,12 +116,11 @@ impl Bench {
 
     // One more redo entry, in the same way.
     pub(crate) fn adds_redo(self, thread: u64, word: u64) -> Bench {
-        let mut state = self.fields();
+        let mut state = self.machine();
         let mut redos = state.redos;
         let at = least(redos.len as u64, 32);
         if at < 32 {
-            redos.threads[at] = byte(thread);
-            redos.words[at] = short(word);
+            redos.keys[at] = key(byte(thread), short(word));
         }
         redos.len = at + 1;
         state.redos = redos;
@@ -130,7 +129,7 @@ impl Bench {
 
     // Another length of the redo buffer.
     pub(crate) fn redos(self, len: u64) -> Bench {
-        let mut state = self.fields();
+        let mut state = self.machine();
         let mut redos = state.redos;
         redos.len = least(len, 33);
         state.redos = redos;
@@ -139,7 +138,7 @@ impl Bench {
 
     // A thread has no open transaction.
     pub(crate) fn closes(self, thread: u64) -> Bench {
-        let mut state = self.fields();
+        let mut state = self.machine();
         let mut opened = state.opened;
         let t = least(thread, 7);
         opened[t] = false;

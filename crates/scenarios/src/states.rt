@@ -1,9 +1,9 @@
 // Whether two states are the same: each number of each array, also where a place is not in use.
 use machine::State;
-use state::Fields;
+use state::Machine;
 
 // The threads that have an open transaction.
-fn same_opened(a: Fields, b: Fields) -> bool {
+fn same_opened(a: Machine, b: Machine) -> bool {
     let mut i = 0;
     while i < 8 {
         if a.opened[i] != b.opened[i] {
@@ -15,7 +15,7 @@ fn same_opened(a: Fields, b: Fields) -> bool {
 }
 
 // Each line's holder, dirty flag and word states.
-fn same_lines(first: Fields, second: Fields) -> bool {
+fn same_lines(first: Machine, second: Machine) -> bool {
     let a = first.lines;
     let b = second.lines;
     let mut i = 0;
@@ -29,15 +29,14 @@ fn same_lines(first: Fields, second: Fields) -> bool {
     true
 }
 
-// The undo+redo buffer's length, and each entry's thread, word, undo and redo.
-fn same_undos(first: Fields, second: Fields) -> bool {
+// The undo+redo buffer's length, and each entry's key, undo and redo.
+fn same_undos(first: Machine, second: Machine) -> bool {
     let a = first.undos;
     let b = second.undos;
     let mut i = 0;
     while i < 16 {
-        let place = (a.threads[i] == b.threads[i]) & (a.words[i] == b.words[i]);
         let values = (a.undos[i] == b.undos[i]) & (a.redos[i] == b.redos[i]);
-        if !(place & values) {
+        if !((a.keys[i] == b.keys[i]) & values) {
             return false;
         }
         i += 1;
@@ -45,14 +44,13 @@ fn same_undos(first: Fields, second: Fields) -> bool {
     a.len == b.len
 }
 
-// The redo buffer's length, and each entry's thread, word and redo.
-fn same_redos(first: Fields, second: Fields) -> bool {
+// The redo buffer's length, and each entry's key and redo.
+fn same_redos(first: Machine, second: Machine) -> bool {
     let a = first.redos;
     let b = second.redos;
     let mut i = 0;
     while i < 32 {
-        let place = (a.threads[i] == b.threads[i]) & (a.words[i] == b.words[i]);
-        if !(place & (a.redos[i] == b.redos[i])) {
+        if !((a.keys[i] == b.keys[i]) & (a.redos[i] == b.redos[i])) {
             return false;
         }
         i += 1;
@@ -61,8 +59,8 @@ fn same_redos(first: Fields, second: Fields) -> bool {
 }
 
 pub(crate) fn same_state(first: State, second: State) -> bool {
-    let a = first.fields;
-    let b = second.fields;
+    let a = first.machine;
+    let b = second.machine;
     let sizes = (a.lost == b.lost) & ((a.words == b.words) & (a.slots == b.slots));
     let span = (a.head == b.head) & (a.tail == b.tail);
     let lines = same_opened(a, b) & same_lines(a, b);

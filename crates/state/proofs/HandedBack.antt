@@ -5,8 +5,8 @@ use native.Mathlib.Omega.{arith}
 use Rattle.parts.specs.Listed.{listed}
 use Rattle.lines.proofs.FirstLines.{first-free}
 use Rattle.model.specs.Machine.{lostMachine, freshMachine, withLines}
-use Rattle.state.specs.declared.Fields.{Fields}
-use Rattle.state.specs.declared.Made.{Made}
+use Rattle.state.specs.declared.Machine.{Machine}
+use Rattle.state.specs.declared.Outcome.{Outcome}
 use Rattle.state.specs.View.{view}
 use Rattle.state.specs.HandedBack.{lostFields, freshFields, HandedBack}
 
@@ -20,16 +20,16 @@ fresh-view words slots tail h =
     ap (λ ls. withLines ls (freshMachine words slots tail)) (first-free (words / 8) (omega arith))
 
 -- a refusal's number is neither that of done nor that of cut
-pub refused-back : (taken : Fields) (r : Made) (n c : ℕ) → (n ≡ 255 → ⊥) → r ≡ record { answer = n; left = c; state = taken }
+pub refused-back : (taken : Machine) (r : Outcome) (n c : ℕ) → (n ≡ 255 → ⊥) → r ≡ record { answer = n; left = c; state = taken }
     → HandedBack taken r
 refused-back taken r n c other e =
-    record { cut = λ a. absurd (other (sym (ap (λ (m : Made). m .answer) e) ∙ a)); refused = λ some uncut. ap (λ (m : Made). m .state) e }
+    record { cut = λ a. absurd (other (sym (ap (λ (m : Outcome). m .answer) e) ∙ a)); refused = λ some uncut. ap (λ (m : Outcome). m .state) e }
 
-pub cut-back : (taken : Fields) (r : Made) → r ≡ record { answer = 255; left = 0; state = lostFields } → HandedBack taken r
+pub cut-back : (taken : Machine) (r : Outcome) → r ≡ record { answer = 255; left = 0; state = lostFields } → HandedBack taken r
 cut-back taken r e =
-    record { cut = λ a. ap (λ (m : Made). m .state) e; refused = λ some uncut. absurd (uncut (ap (λ (m : Made). m .answer) e)) }
+    record { cut = λ a. ap (λ (m : Outcome). m .state) e; refused = λ some uncut. absurd (uncut (ap (λ (m : Outcome). m .answer) e)) }
 
 -- of a step that is done `view` says all that its state means
-pub done-back : (taken : Fields) (r : Made) → r .answer ≡ 0 → HandedBack taken r
+pub done-back : (taken : Machine) (r : Outcome) → r .answer ≡ 0 → HandedBack taken r
 done-back taken r e =
     record { cut = λ a. absurd (omega (arith, e, a)); refused = λ some uncut. absurd (some e) }

@@ -20,6 +20,8 @@ use Rattle.model.specs.Machine.{Machine, stateIn, holderIn}
 use Rattle.model.specs.Consistent.{entriesOf, lineLimits, entryLimits, withinLimits, consistent}
 use Rattle.model.specs.Consistent.{dirtyWait, redoClean, entriesHeld, holdersOpen, freeClean}
 use Rattle.model.proofs.Entries.{keep-append}
+use Rattle.buffers.specs.Waiting.{entryOf, waitingOf}
+use Rattle.state.specs.declared.Counts.{Counts}
 use Rattle.state.specs.StateOf.{bareLine, bareEntry, linesLent, entriesLent, stateOf}
 use Rattle.state.proofs.Walking.{all-last}
 
@@ -62,51 +64,52 @@ pub record Alike (bare whole : List Entry) : Type 0 where
   pub each : (f g : Entry → Bool) → ((e : Entry) → f (bareEntry (e .thread) (e .word)) ≡ g e) → all f bare ≡ all g whole
   pub ofWord : (w : ℕ) → length (entriesOf w bare) ≡ length (entriesOf w whole)
 
--- Entries of which the threads and the words are lent: the i-th has the i-th thread and the i-th word, whatever its values.
-pub entries-lent : (n : ℕ) (threads words : List ℕ) (entry : ℕ → Entry)
-    → ((i : ℕ) → bareEntry (entry i .thread) (entry i .word) ≡ bareEntry (getD threads i 0) (getD words i 0))
-    → Alike (entriesLent n threads words) (listed n entry)
-entries-lent n threads words entry same =
+-- Entries of which the keys are lent: the i-th has the i-th key, whatever its values.
+pub entries-lent : (n : ℕ) (keys undos redos : List ℕ) → Alike (entriesLent n keys) (waitingOf n keys undos redos)
+entries-lent n keys undos redos =
     record {
-      number = length-listed n bare ∙ sym (length-listed n entry);
-      each = λ f g alike. all-alike f g bare entry (λ i. ap f (sym (same i)) ∙ alike (entry i)) n;
-      ofWord = λ w. count-alike _ _ bare entry (λ i. ap (λ (e : Entry). eqb (e .word) w) (sym (same i))) n;
+      number = length-listed n bare ∙ sym (length-listed n whole);
+      each = λ f g alike. all-alike f g bare whole (λ i. alike (whole i)) n;
+      ofWord = λ w. count-alike _ _ bare whole (λ i. refl) n;
     }
   where
     bare : ℕ → Entry
-    bare i = bareEntry (getD threads i 0) (getD words i 0)
+    bare = entryOf keys [] []
+
+    whole : ℕ → Entry
+    whole = entryOf keys undos redos
 
 -- The lines and the entries of a state, and those of which the parts are lent.
-module _ (lost : Bool) (words slots head tail : ℕ) (opened : List Bool) (ls : Lines) {us undos rs redos : List Entry} (u : Alike us undos)
+module _ (lost : Bool) (n : Counts) (opened : List Bool) (ls : Lines) {us undos rs redos : List Entry} (u : Alike us undos)
     (r : Alike rs redos) where
   abbrev whole : Machine
   whole =
       record {
         lost = lost;
-        sizes = record { words = words; slots = slots };
-        span = record { head = head; tail = tail };
+        sizes = record { words = n .words; slots = n .slots };
+        span = record { head = n .head; tail = n .tail };
         opened = opened;
-        lines = firstLines (words / 8) ls;
+        lines = firstLines (n .words / 8) ls;
         buffers = record { undoRedo = undos; redo = redos };
       }
 
   abbrev lent : Machine
-  lent = stateOf words slots head tail opened (linesLent (words / 8) (ls .holders) (ls .states)) us rs
+  lent = stateOf n opened (linesLent (n .words / 8) (ls .holders) (ls .states)) us rs
 
   abbrev line : ℕ → Line
   line i = bareLine (getD (ls .holders) i 0) (getD (ls .states) i 0)
 
   state-alike : (w : ℕ) → stateIn (lent .lines) w ≡ stateIn (whole .lines) w
   unfolding stateIn
-  state-alike w = ap (λ (s : ℕ). stateAt s (w % 8)) (field-alike (λ l. l .states) line (lineAt ls) (λ i. refl) (words / 8) (w / 8))
+  state-alike w = ap (λ (s : ℕ). stateAt s (w % 8)) (field-alike (λ l. l .states) line (lineAt ls) (λ i. refl) (n .words / 8) (w / 8))
 
   holder-alike : (w : ℕ) → holderIn (lent .lines) w ≡ holderIn (whole .lines) w
   unfolding holderIn
-  holder-alike w = field-alike (λ l. l .holder) line (lineAt ls) (λ i. refl) (words / 8) (w / 8)
+  holder-alike w = field-alike (λ l. l .holder) line (lineAt ls) (λ i. refl) (n .words / 8) (w / 8)
 
   -- a test of the lines
   lines-alike : (f : Line → Bool) → ((i : ℕ) → f (line i) ≡ f (lineAt ls i)) → all f (lent .lines) ≡ all f (whole .lines)
-  lines-alike f alike = all-alike f f line (lineAt ls) alike (words / 8)
+  lines-alike f alike = all-alike f f line (lineAt ls) alike (n .words / 8)
 
   limits-alike : withinLimits lent ≡ withinLimits whole
   unfolding withinLimits lineLimits entryLimits
@@ -115,15 +118,15 @@ module _ (lost : Bool) (words slots head tail : ℕ) (opened : List Bool) (ls : 
         lines-alike lineLimits (λ i. refl),
         u .number,
         r .number,
-        u .each (entryLimits words) (entryLimits words) (λ e. refl),
-        r .each (entryLimits words) (entryLimits words) (λ e. refl),
+        u .each (entryLimits (n .words)) (entryLimits (n .words)) (λ e. refl),
+        r .each (entryLimits (n .words)) (entryLimits (n .words)) (λ e. refl),
       )
 
   dirty-alike : dirtyWait lent ≡ dirtyWait whole
   unfolding dirtyWait
   dirty-alike =
       ap₂ (λ (s t : Bool). s && t)
-      (all-alike _ _ (λ i. i) (λ i. i) (λ w. ap₂ (λ (s k : ℕ). not (eqb s Dirty) || eqb k 1) (state-alike w) (u .ofWord w)) words)
+      (all-alike _ _ (λ i. i) (λ i. i) (λ w. ap₂ (λ (s k : ℕ). not (eqb s Dirty) || eqb k 1) (state-alike w) (u .ofWord w)) (n .words))
       (u .each _ _ (λ e. ap (λ (s : ℕ). eqb s Dirty) (state-alike (e .word))))
 
   redo-alike : redoClean lent ≡ redoClean whole

@@ -25,8 +25,11 @@ use Rattle.model.proofs.Lines.{state-marked, holder-marked, length-marked, stat
 use Rattle.model.proofs.Core.{EntryOk}
 use Rattle.model.proofs.Consistency.{both, all-true, every-entry, entry-limits, WaitsFor, AllWait, all-in-state, all-alone, all-held}
 use Rattle.model.proofs.Fit.{Clauses, clauses, all-every}
+use Rattle.buffers.specs.Waiting.{entryOf}
+use Rattle.state.specs.declared.Counts.{Counts}
 use Rattle.state.specs.StateOf.{linesLent, entriesLent, stateOf}
-use Rattle.state.specs.Linear.{inLimits, lineSound, waitsFor, eachWaits, allMarked, lineWithoutDirty, undosWait, redosWait, linear}
+use Rattle.state.specs.Linear.{inLimits, lineSound, waitsFor, eachWaits, allMarked}
+use Rattle.state.specs.Linear.{lineWithoutDirty, undosWait, redosWait, countsOf, linear}
 use Rattle.state.proofs.NoneDirty.{none-dirty, none-dirty-test}
 
 -- ---- tests
@@ -42,28 +45,28 @@ halves : (a b : Bool) → (a && b) ≡ true → (a ≡ true) × (b ≡ true)
 halves a b e = (both-left a b e, both-right a b e)
 
 -- the parts of the limits
-record Limits (words slots head tail undos redos : ℕ) : Type 0 where
-  bounds : (leb head numbers && leb tail numbers) ≡ true
-  sizes : (isWidth words && (leb 8 slots && leb slots 1024)) ≡ true
-  entries : (leb undos 16 && leb redos 32) ≡ true
-  order : (leb head tail && leb tail (head + slots)) ≡ true
+record Limits (n : Counts) : Type 0 where
+  bounds : (leb (n .head) numbers && leb (n .tail) numbers) ≡ true
+  sizes : (isWidth (n .words) && (leb 8 (n .slots) && leb (n .slots) 1024)) ≡ true
+  entries : (leb (n .undos) 16 && leb (n .redos) 32) ≡ true
+  order : (leb (n .head) (n .tail) && leb (n .tail) (n .head + n .slots)) ≡ true
 
-limits : (words slots head tail undos redos : ℕ) → inLimits words slots head tail undos redos ≡ true → Limits words slots head tail undos redos
+limits : (n : Counts) → inLimits n ≡ true → Limits n
 unfolding inLimits
-limits words slots head tail undos redos t =
-    let n = halves (leb head numbers && leb tail numbers) (size && (few && order)) t in
-    let w = halves size (few && order) (n .1) in
+limits n t =
+    let all = halves (leb (n .head) numbers && leb (n .tail) numbers) (size && (few && order)) t in
+    let w = halves size (few && order) (all .1) in
     let s = halves few order (w .1) in
-    record { bounds = n .0; sizes = w .0; entries = s .0; order = s .1 }
+    record { bounds = all .0; sizes = w .0; entries = s .0; order = s .1 }
   where
     size : Bool
-    size = isWidth words && (leb 8 slots && leb slots 1024)
+    size = isWidth (n .words) && (leb 8 (n .slots) && leb (n .slots) 1024)
 
     few : Bool
-    few = leb undos 16 && leb redos 32
+    few = leb (n .undos) 16 && leb (n .redos) 32
 
     order : Bool
-    order = leb head tail && leb tail (head + slots)
+    order = leb (n .head) (n .tail) && leb (n .tail) (n .head + n .slots)
 
 -- two tests of every element are one
 shuffled : (a b c d : Bool) → ((a && b) && (c && d)) ≡ ((a && c) && (b && d))
@@ -374,9 +377,8 @@ module _ (m : Machine) (lines : length (m .lines) ≡ m .sizes .words / 8) where
   linear-passes : linear m ≡ true → consistent m ≡ true
   unfolding linear redosWait consistent withinLimits dirtyWait redoClean entriesHeld
   linear-passes t =
-      let h =
-      halves (inLimits (m .sizes .words) (m .sizes .slots) (m .span .head) (m .span .tail) (length (m .buffers .undoRedo)) (length (m .buffers .redo))) (sound && (undos && redos)) t in
-      let n = limits (m .sizes .words) (m .sizes .slots) (m .span .head) (m .span .tail) (length (m .buffers .undoRedo)) (length (m .buffers .redo)) (h .0) in
+      let h = halves (inLimits (countsOf m)) (sound && (undos && redos)) t in
+      let n = limits (countsOf m) (h .0) in
       let b = halves sound (undos && redos) (h .1) in
       let e = halves undos redos (b .1) in
       let l = halves (all lineLimits (m .lines)) (holdersOpen m && freeClean m) (sym (lines-clauses m) ∙ b .0) in
@@ -470,32 +472,40 @@ module _ (m : Machine) (lines : length (m .lines) ≡ m .sizes .words / 8) where
 -- ---- the test of the state that is lent
 
 -- what the limits say of W and of the buffers
-pub limits-hold : (words slots head tail undos redos : ℕ) → inLimits words slots head tail undos redos ≡ true
-    → (words ≤ 512) × ((words % 8 ≡ 0) × ((undos ≤ 16) × (redos ≤ 32)))
-limits-hold words slots head tail undos redos t =
-    let l = limits words slots head tail undos redos t in
-    let w = halves (leb 8 words) (leb words 512 && eqb (words % 8) 0) (both-left (isWidth words) (leb 8 slots && leb slots 1024) (l .sizes)) in
-    let v = halves (leb words 512) (eqb (words % 8) 0) (w .1) in
-    let n = halves (leb undos 16) (leb redos 32) (l .entries) in
-    (leb-true words 512 (v .0), (eqb-true (words % 8) 0 (v .1), (leb-true undos 16 (n .0), leb-true redos 32 (n .1))))
+pub limits-hold : (n : Counts) → inLimits n ≡ true → (n .words ≤ 512) × ((n .words % 8 ≡ 0) × ((n .undos ≤ 16) × (n .redos ≤ 32)))
+limits-hold n t =
+    let l = limits n t in
+    let rest = leb (n .words) 512 && eqb (n .words % 8) 0 in
+    let w = halves (leb 8 (n .words)) rest (both-left (isWidth (n .words)) (leb 8 (n .slots) && leb (n .slots) 1024) (l .sizes)) in
+    let v = halves (leb (n .words) 512) (eqb (n .words % 8) 0) (w .1) in
+    let e = halves (leb (n .undos) 16) (leb (n .redos) 32) (l .entries) in
+    (leb-true (n .words) 512 (v .0), (eqb-true (n .words % 8) 0 (v .1), (leb-true (n .undos) 16 (e .0), leb-true (n .redos) 32 (e .1))))
 
 -- the state that is lent
-module _ (words slots head tail : ℕ) (opened : List Bool) (holders states : List ℕ) (us : ℕ) (uthreads uwords : List ℕ) (rs : ℕ)
-    (rthreads rwords : List ℕ) where
+module _ (n : Counts) (opened : List Bool) (holders states undo-keys redo-keys : List ℕ) where
   abbrev lent : Machine
-  lent = stateOf words slots head tail opened (linesLent (words / 8) holders states) (entriesLent us uthreads uwords) (entriesLent rs rthreads rwords)
+  lent = stateOf n opened (linesLent (n .words / 8) holders states) (entriesLent (n .undos) undo-keys) (entriesLent (n .redos) redo-keys)
+
+  -- its counts, by its buffers
+  counted : countsOf lent ≡ n
+  counted = λ i. record {
+    words = n .words;
+    slots = n .slots;
+    head = n .head;
+    tail = n .tail;
+    undos = length-listed (n .undos) (entryOf undo-keys [] []) i;
+    redos = length-listed (n .redos) (entryOf redo-keys [] []) i;
+  }
 
   -- the parts of the test make the whole
-  pub parts-consistent : (limits lines undos redos : Bool) → limits ≡ inLimits words slots head tail us rs
-      → lines ≡ all (lineSound opened) (lent .lines) → undos ≡ undosWait words (lent .lines) (lent .buffers .undoRedo)
-      → redos ≡ redosWait words (lent .lines) (lent .buffers .redo) → (limits && (lines && (undos && redos))) ≡ consistent lent
+  pub parts-consistent : (limits lines undos redos : Bool) → limits ≡ inLimits n → lines ≡ all (lineSound opened) (lent .lines)
+      → undos ≡ undosWait (n .words) (lent .lines) (lent .buffers .undoRedo) → redos ≡ redosWait (n .words) (lent .lines) (lent .buffers .redo)
+      → (limits && (lines && (undos && redos))) ≡ consistent lent
   unfolding linear
   parts-consistent limits lines undos redos a b c d =
-      ap₂ (λ (x y : Bool). x && y)
-      (a ∙ ap₂ (inLimits words slots head tail) (sym (length-listed us _)) (sym (length-listed rs _)))
-      (ap₂ (λ (x y : Bool). x && y) b (ap₂ (λ (x y : Bool). x && y) c d))
-      ∙ linear-consistent lent (length-listed (words / 8) _)
+      ap₂ (λ (x y : Bool). x && y) (a ∙ ap inLimits (sym counted)) (ap₂ (λ (x y : Bool). x && y) b (ap₂ (λ (x y : Bool). x && y) c d))
+      ∙ linear-consistent lent (length-listed (n .words / 8) _)
 
   -- a state outside its limits is not consistent
-  pub outside-limits : inLimits words slots head tail us rs ≡ false → false ≡ consistent lent
+  pub outside-limits : inLimits n ≡ false → false ≡ consistent lent
   outside-limits e = parts-consistent false _ _ _ (sym e) refl refl refl

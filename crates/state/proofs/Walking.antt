@@ -1,6 +1,6 @@
 -- Walks over the lines and over the entries that are lent, one after the other.
 use Prim.Native.Nat.{ℕ, _+_, _/_, _%_, _≤_, _<_}
-use mathlib.Core.Path.{_≡_, refl, sym, ap, ap₂, _∙_}
+use mathlib.Core.Path.{_≡_, refl, sym, ap, ap₂, _∙_, subst}
 use mathlib.Core.Bool.{Bool, true, false, _&&_, and-true, and-assoc, false≢true}
 use mathlib.Core.List.{List, [], _∷_, _++_}
 use native.Mathlib.Numerals.{add-one}
@@ -17,6 +17,8 @@ use Rattle.parts.specs.States.{stateAt, withState, Dirty, URLog}
 use Rattle.parts.proofs.Listed.{length-listed, getD-listed, set-listed}
 use Rattle.model.specs.Lists.{all}
 use Rattle.model.specs.Machine.{lineOf, stateIn, holderIn, statesAs, changed, marked}
+use Rattle.buffers.specs.Keys.{keyThread, keyWord}
+use Rattle.buffers.specs.Waiting.{keyed, entryOf}
 use Rattle.state.specs.StateOf.{bareLine, bareEntry, linesLent, entriesLent}
 use Rattle.state.specs.Linear.{waitsFor, eachWaits, allMarked, lineWithoutDirty, undosWait, Walked}
 
@@ -99,6 +101,12 @@ module _ (wanted next words : ℕ) (holders states : List ℕ) (thread word : �
           lines = λ _. rw put (states-set holders states (words / 8) word (omega arith) next (omega arith));
         }
 
+-- the same of an entry by its key
+pub walked-keyed : {wanted next words : ℕ} {holders before after : List ℕ} {r : Bool} (key thread word : ℕ) → thread ≡ keyThread key → word ≡ keyWord key
+    → Walked wanted next words holders before (bareEntry thread word ∷ []) r after → Walked wanted next words holders before (keyed key 0 0 ∷ []) r after
+walked-keyed {wanted} {next} {words} {holders} {before} {after} {r} key thread word t w =
+    subst (λ (e : Entry). Walked wanted next words holders before (e ∷ []) r after) (λ i. bareEntry (t i) (w i))
+
 module _ (wanted next words : ℕ) (holders : List ℕ) where
   -- no entries: each waits, and no state is replaced
   pub walked-none : (states : List ℕ) → Walked wanted next words holders states [] true states
@@ -135,30 +143,30 @@ pub record Reached (wanted next words : ℕ) (holders before : List ℕ) (es : L
       → Walked wanted next words holders before es r later
 
 -- the entries that are lent
-module _ (count : ℕ) (threads targets : List ℕ) where
+module _ (count : ℕ) (keys : List ℕ) where
   abbrev entry : ℕ → Entry
-  entry i = bareEntry (getD threads i 0) (getD targets i 0)
+  entry = entryOf keys [] []
 
   -- those from place i on: the one there, and those after it
-  entries-from : (i : ℕ) → i < count → drop i (entriesLent count threads targets) ≡ entry i ∷ drop (i + 1) (entriesLent count threads targets)
+  entries-from : (i : ℕ) → i < count → drop i (entriesLent count keys) ≡ entry i ∷ drop (i + 1) (entriesLent count keys)
   entries-from i h =
-      let l : length (entriesLent count threads targets) ≡ count = length-listed count entry in
-      drop-cons (entriesLent count threads targets) i (entry i) (omega arith)
-      ∙ ap₂ (λ (x : Entry) (n : ℕ). x ∷ drop n (entriesLent count threads targets)) (getD-listed count entry i (entry i) h) (sym (add-one i))
+      let l : length (entriesLent count keys) ≡ count = length-listed count entry in
+      drop-cons (entriesLent count keys) i (entry i) (omega arith)
+      ∙ ap₂ (λ (x : Entry) (n : ℕ). x ∷ drop n (entriesLent count keys)) (getD-listed count entry i (entry i) h) (sym (add-one i))
 
   -- a walk has come to place i
   module _ (wanted next words : ℕ) (holders before : List ℕ) where
     abbrev pub ReachedAt : ℕ → List ℕ → Type 0
     ReachedAt i states =
-        Reached wanted next words holders before (entriesLent count threads targets) states (drop i (entriesLent count threads targets))
+        Reached wanted next words holders before (entriesLent count keys) states (drop i (entriesLent count keys))
 
     pub reached-start : ReachedAt 0 before
     reached-start = record { size = refl; onward = λ r later w. w }
 
     module _ (i : ℕ) (states new : List ℕ) (r : Bool) (h : i < count) (so-far : ReachedAt i states)
         (one : Walked wanted next words holders states (entry i ∷ []) r new) where
-      here : Reached wanted next words holders before (entriesLent count threads targets) states
-          (entry i ∷ drop (i + 1) (entriesLent count threads targets))
+      here : Reached wanted next words holders before (entriesLent count keys) states
+          (entry i ∷ drop (i + 1) (entriesLent count keys))
       here = rw (entries-from i h) at so-far
 
       -- the entry there waits: on to the next
@@ -170,21 +178,21 @@ module _ (count : ℕ) (threads targets : List ℕ) where
             onward =
                 λ r later w.
                 here .onward r later
-                (walked-more wanted next words holders states (entry i) (drop (i + 1) (entriesLent count threads targets)) new later r waits w);
+                (walked-more wanted next words holders states (entry i) (drop (i + 1) (entriesLent count keys)) new later r waits w);
           }
 
       -- it does not: that is so of all
-      pub reached-fails : r ≡ false → Walked wanted next words holders before (entriesLent count threads targets) false new
+      pub reached-fails : r ≡ false → Walked wanted next words holders before (entriesLent count keys) false new
       reached-fails wrong =
           let fails : Walked wanted next words holders states (entry i ∷ []) false new = rw wrong at one in
           here .onward false new
-          (walked-fails wanted next words holders states (entry i) (drop (i + 1) (entriesLent count threads targets)) new fails)
+          (walked-fails wanted next words holders states (entry i) (drop (i + 1) (entriesLent count keys)) new fails)
 
     pub reached-end : (i : ℕ) (states : List ℕ) → count ≤ i → ReachedAt i states
-        → Walked wanted next words holders before (entriesLent count threads targets) true states
+        → Walked wanted next words holders before (entriesLent count keys) true states
     reached-end i states h so-far =
-        let l : length (entriesLent count threads targets) ≤ i = rw length-listed h in
-        so-far .onward true states (rw (drop-of-length-le (entriesLent count threads targets) l) (walked-none wanted next words holders states))
+        let l : length (entriesLent count keys) ≤ i = rw length-listed h in
+        so-far .onward true states (rw (drop-of-length-le (entriesLent count keys) l) (walked-none wanted next words holders states))
 
 -- the undo+redo entries walked over, and then the states looked at
 pub undos-walked : (words : ℕ) (holders before : List ℕ) (es : List Entry) (states : List ℕ) (r t : Bool)

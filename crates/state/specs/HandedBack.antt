@@ -6,11 +6,11 @@ use lib.ListN.{replicate}
 use Rattle.lines.specs.Lines.{freeLines}
 use Rattle.buffers.specs.Waiting.{emptyUndos, emptyRedos}
 use Rattle.model.specs.Step.{Step, takesState}
-use Rattle.state.specs.declared.Fields.{Fields}
-use Rattle.state.specs.declared.Made.{Made}
+use Rattle.state.specs.declared.Machine.{Machine}
+use Rattle.state.specs.declared.Outcome.{Outcome}
 
 -- "dark: one fixed value, its other numbers 0"
-abbrev pub lostFields : Fields
+abbrev pub lostFields : Machine
 lostFields =
     record {
       lost = true;
@@ -25,7 +25,7 @@ lostFields =
     }
 
 -- "the new state has empty buffers, all Clean, unheld, not dirty, no transaction"
-abbrev pub freshFields : ℕ → ℕ → ℕ → Fields
+abbrev pub freshFields : ℕ → ℕ → ℕ → Machine
 freshFields words slots tail =
     record {
       lost = false;
@@ -41,10 +41,10 @@ freshFields words slots tail =
 
 -- the state that a step starts from, and that it hands back if it is refused: "a refused recover hands back a dark
 -- state"
-abbrev pub takenFields : Step → Fields → Fields
+abbrev pub takenFields : Step → Machine → Machine
 takenFields s state = cond (takesState s) state lostFields
 
 -- Cut, the lost state is handed back, and refused, the one taken: each place of it.
-pub record HandedBack (taken : Fields) (r : Made) : Type 0 where
+pub record HandedBack (taken : Machine) (r : Outcome) : Type 0 where
   pub cut : r .answer ≡ 255 → r .state ≡ lostFields
   pub refused : (r .answer ≡ 0 → ⊥) → (r .answer ≡ 255 → ⊥) → r .state ≡ taken

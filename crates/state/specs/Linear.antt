@@ -14,16 +14,17 @@ use Rattle.parts.specs.States.{Clean, Dirty, URLog, ULog}
 use Rattle.model.specs.Lists.{all}
 use Rattle.model.specs.Machine.{Machine, stateIn, holderIn, marked}
 use Rattle.model.specs.Consistent.{isWidth}
+use Rattle.state.specs.declared.Counts.{Counts}
 use Rattle.state.specs.declared.awaited.Buffer.{Buffer}
 use Rattle.state.specs.declared.awaited.Buffer.the-variants.{UndoRedo, Redo}
 use Rattle.state.specs.StateOf.{linesLent}
 
 -- the numbers are within their limits, head and tail in order
-unfoldable pub inLimits : ℕ → ℕ → ℕ → ℕ → ℕ → ℕ → Bool
-inLimits words slots head tail undos redos =
-    (leb head numbers && leb tail numbers) &&
-    ((isWidth words && (leb 8 slots && leb slots 1024)) &&
-    ((leb undos 16 && leb redos 32) && (leb head tail && leb tail (head + slots))))
+unfoldable pub inLimits : Counts → Bool
+inLimits n =
+    (leb (n .head) numbers && leb (n .tail) numbers) &&
+    ((isWidth (n .words) && (leb 8 (n .slots) && leb (n .slots) 1024)) &&
+    ((leb (n .undos) 16 && leb (n .redos) 32) && (leb (n .head) (n .tail) && leb (n .tail) (n .head + n .slots))))
 
 -- a thread with an open transaction holds the line, or nobody does and its words are all Clean
 unfoldable pub lineSound : List Bool → Line → Bool
@@ -79,10 +80,21 @@ undosWait words ls es = eachWaits Dirty URLog words ls es && all lineWithoutDirt
 unfoldable pub redosWait : ℕ → List Line → List Entry → Bool
 redosWait words ls es = eachWaits Clean ULog words ls es
 
+-- the counts of a machine
+abbrev pub countsOf : Machine → Counts
+countsOf m =
+    record {
+      words = m .sizes .words;
+      slots = m .sizes .slots;
+      head = m .span .head;
+      tail = m .span .tail;
+      undos = length (m .buffers .undoRedo);
+      redos = length (m .buffers .redo);
+    }
+
 unfoldable pub linear : Machine → Bool
 linear m =
-    inLimits (m .sizes .words) (m .sizes .slots) (m .span .head) (m .span .tail) (length (m .buffers .undoRedo))
-    (length (m .buffers .redo)) &&
+    inLimits (countsOf m) &&
     (all (lineSound (m .opened)) (m .lines) &&
     (undosWait (m .sizes .words) (m .lines) (m .buffers .undoRedo) && redosWait (m .sizes .words) (m .lines)
     (m .buffers .redo)))

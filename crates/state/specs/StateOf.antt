@@ -3,11 +3,13 @@
 -- state is not lost.
 use Prim.Native.Nat.{ℕ}
 use mathlib.Core.Bool.{Bool, false}
-use mathlib.Core.List.{List}
+use mathlib.Core.List.{List, []}
 use lib.ListN.{getD}
 use Rattle.parts.specs.declared.Entry.{Entry}
 use Rattle.parts.specs.declared.Line.{Line}
 use Rattle.parts.specs.Listed.{listed}
+use Rattle.buffers.specs.Waiting.{waitingOf}
+use Rattle.state.specs.declared.Counts.{Counts}
 use Rattle.model.specs.Machine.{Machine}
 
 abbrev pub bareLine : ℕ → ℕ → Line
@@ -16,20 +18,21 @@ bareLine holder states = record { holder = holder; dirty = false; states = state
 abbrev pub bareEntry : ℕ → ℕ → Entry
 bareEntry thread word = record { thread = thread; word = word; undo = 0; redo = 0 }
 
--- the first n lines, and the first n entries; past the last place they are zeros
+-- the first n lines; past the last place they are zeros
 abbrev pub linesLent : ℕ → List ℕ → List ℕ → List Line
 linesLent n holders states = listed n (λ i. bareLine (getD holders i 0) (getD states i 0))
 
-abbrev pub entriesLent : ℕ → List ℕ → List ℕ → List Entry
-entriesLent n threads words = listed n (λ i. bareEntry (getD threads i 0) (getD words i 0))
+-- the first n entries, by their keys
+abbrev pub entriesLent : ℕ → List ℕ → List Entry
+entriesLent n keys = waitingOf n keys [] []
 
--- the state, of W words
-abbrev pub stateOf : ℕ → ℕ → ℕ → ℕ → List Bool → List Line → List Entry → List Entry → Machine
-stateOf words slots head tail opened lines undos redos =
+-- the state with these counts
+abbrev pub stateOf : Counts → List Bool → List Line → List Entry → List Entry → Machine
+stateOf n opened lines undos redos =
     record {
       lost = false;
-      sizes = record { words = words; slots = slots };
-      span = record { head = head; tail = tail };
+      sizes = record { words = n .words; slots = n .slots };
+      span = record { head = n .head; tail = n .tail };
       opened = opened;
       lines = lines;
       buffers = record { undoRedo = undos; redo = redos };

@@ -3,13 +3,13 @@ use Prim.Native.Nat.{ℕ, _/_}
 use mathlib.Core.List.{List}
 use Rattle.buffers.specs.Waiting.{undosWaiting, redosWaiting}
 use Rattle.lines.specs.Lines.{firstLines}
-use Rattle.model.specs.Machine.{Machine, Memory}
-use Rattle.model.specs.Plan.{Outcome}
-use Rattle.state.specs.declared.Fields.{Fields}
-use Rattle.state.specs.declared.Made.{Made}
+use Rattle.model.specs.Machine.{Machine as Model, Memory}
+use Rattle.model.specs.Plan.{Outcome as ModelOutcome}
+use Rattle.state.specs.declared.Machine.{Machine}
+use Rattle.state.specs.declared.Outcome.{Outcome}
 
 -- the first W/8 lines and the entries that wait are the state; places that are not in use mean nothing
-abbrev pub view : Fields → Machine
+abbrev pub view : Machine → Model
 view s =
     record {
       lost = s .lost;
@@ -25,6 +25,6 @@ abbrev pub memory : List ℕ → List ℕ → List ℕ → Memory
 memory home working log = record { home = home; working = working; log = log }
 
 -- an answer with the buffers after the step
-abbrev pub shown : Made → List ℕ → List ℕ → List ℕ → Outcome
+abbrev pub shown : Outcome → List ℕ → List ℕ → List ℕ → ModelOutcome
 shown r home working log =
     record { answer = r .answer; left = r .left; machine = view (r .state); memory = memory home working log }

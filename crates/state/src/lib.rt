@@ -20,7 +20,7 @@ pub use ways_out::lost;
 
 // A state by its fields. `lost` is document 01's "dark". `lines` and the buffers may have places that are not in use.
 // Between two large arrays stands a number, so that the compiler copies each by itself (docs/DECISIONS.md).
-pub struct Fields {
+pub struct Machine {
     pub lost: bool,
     pub words: u16,
     pub slots: u16,
@@ -32,11 +32,21 @@ pub struct Fields {
     pub redos: RedoBuffer,
 }
 
+// The counts of a state: words W and slots L, head and tail, and how many entries wait in each buffer.
+pub struct Counts {
+    pub words: u16,
+    pub slots: u16,
+    pub head: u64,
+    pub tail: u64,
+    pub undos: usize,
+    pub redos: usize,
+}
+
 // What a step hands back: the answer's number, the count left, and the state.
-pub struct Made {
+pub struct Outcome {
     pub answer: u64,
     pub left: u64,
-    pub state: Fields,
+    pub state: Machine,
 }
 
 // "0 (done)" and "255 (cut)"

@@ -5,24 +5,22 @@ ghost use mathlib.Core.List.{[], _∷_};
 ghost use Prim.Native.Nat.{_/_, _%_, _≤_};
 ghost use lib.ListN.{length};
 ghost use Rattle.parts.specs.States.{URLog};
-ghost use Rattle.state.specs.StateOf.{bareEntry, linesLent, entriesLent};
+ghost use Rattle.buffers.specs.Waiting.{keyed};
+ghost use Rattle.state.specs.StateOf.{linesLent, entriesLent};
 ghost use Rattle.state.specs.Linear.{awaited, markOf, allMarked, undosWait, redosWait, Walked};
 use crate::awaited::Buffer;
 use crate::dirty_words::none_dirty;
+use buffers::key_thread;
+use buffers::key_word;
 
 // One entry of the buffer waits for its word. If it does, the word is marked.
-fn waits(
-    words: u16,
-    holders: &[u8; 64],
-    states: &mut [u16; 64],
-    thread: u8,
-    word: u16,
-    buffer: Buffer,
-) -> bool
+fn waits(words: u16, holders: &[u8; 64], states: &mut [u16; 64], key: u16, buffer: Buffer) -> bool
     requires { ⌜ (words ≤ 512) × ((words % 8 ≡ 0) × (length (now states) ≡ 64)) ⌝ }
     ensures { λ r. ⌜ Walked (awaited buffer) (markOf buffer) words (now (holders .entry)) (now (states .entry))
-        (bareEntry thread word ∷ []) r (now (states .exit)) ⌝ }
+        (keyed key 0 0 ∷ []) r (now (states .exit)) ⌝ }
 {
+    let thread = key_thread(key);
+    let word = key_word(key);
     if words <= word {
         return false;
     }
@@ -43,20 +41,16 @@ fn each_waits<'a>(
     holders: &'a [u8; 64],
     states: &mut [u16; 64],
     count: usize,
-    threads: &'a [u8],
-    targets: &'a [u16],
+    keys: &'a [u16],
     buffer: Buffer,
 ) -> bool
-    requires { ⌜ (words ≤ 512) × ((words % 8 ≡ 0) × ((length (now states) ≡ 64)
-        × ((count ≤ length (now threads)) × (count ≤ length (now targets))))) ⌝ }
+    requires { ⌜ (words ≤ 512) × ((words % 8 ≡ 0) × ((length (now states) ≡ 64) × (count ≤ length (now keys)))) ⌝ }
     ensures { λ r. ⌜ Walked (awaited buffer) (markOf buffer) words (now (holders .entry)) (now (states .entry))
-        (entriesLent count (now (threads .entry)) (now (targets .entry))) r (now (states .exit)) ⌝ }
+        (entriesLent count (now (keys .entry))) r (now (states .exit)) ⌝ }
 {
     let mut i = 0;
     while i < count {
-        let thread = threads[i];
-        let word = targets[i];
-        if !waits(words, holders, states, thread, word, buffer) {
+        if !waits(words, holders, states, keys[i], buffer) {
             return false;
         }
         i += 1;
@@ -71,26 +65,17 @@ fn undos_wait<'a>(
     holders: &'a [u8; 64],
     states: &mut [u16; 64],
     count: usize,
-    threads: &'a [u8; 16],
-    targets: &'a [u16; 16],
+    keys: &'a [u16; 16],
 ) -> bool
     requires { ⌜ (words ≤ 512) × ((words % 8 ≡ 0) × ((length (now states) ≡ 64) × (count ≤ 16))) ⌝ }
     ensures { λ r. ⌜ r ≡ undosWait words (linesLent (words / 8) (now (holders .entry)) (now (states .entry)))
-        (entriesLent count (now (threads .entry)) (now (targets .entry))) ⌝ }
+        (entriesLent count (now (keys .entry))) ⌝ }
     ensures { λ r. ⌜ length (now (states .exit)) ≡ length (now (states .entry)) ⌝ }
     ensures { λ r. ⌜ (r ≡ true → linesLent (words / 8) (now (holders .entry)) (now (states .exit))
         ≡ allMarked URLog (linesLent (words / 8) (now (holders .entry)) (now (states .entry)))
-        (entriesLent count (now (threads .entry)) (now (targets .entry)))) ⌝ }
+        (entriesLent count (now (keys .entry)))) ⌝ }
 {
-    let each = each_waits(
-        words,
-        holders,
-        states,
-        count,
-        threads,
-        targets,
-        Buffer::UndoRedo,
-    );
+    let each = each_waits(words, holders, states, count, keys, Buffer::UndoRedo);
     each & none_dirty((words / 8) as usize, states)
 }
 
@@ -100,22 +85,13 @@ fn redos_wait<'a>(
     holders: &'a [u8; 64],
     states: &mut [u16; 64],
     count: usize,
-    threads: &'a [u8; 32],
-    targets: &'a [u16; 32],
+    keys: &'a [u16; 32],
 ) -> bool
     requires { ⌜ (words ≤ 512) × ((words % 8 ≡ 0) × ((length (now states) ≡ 64) × (count ≤ 32))) ⌝ }
     ensures { λ r. ⌜ r ≡ redosWait words (linesLent (words / 8) (now (holders .entry)) (now (states .entry)))
-        (entriesLent count (now (threads .entry)) (now (targets .entry))) ⌝ }
+        (entriesLent count (now (keys .entry))) ⌝ }
 {
-    each_waits(
-        words,
-        holders,
-        states,
-        count,
-        threads,
-        targets,
-        Buffer::Redo,
-    )
+    each_waits(words, holders, states, count, keys, Buffer::Redo)
 }
 
 // Both. The redo entries are looked at in the states that the undo+redo entries have left: these mark no Clean word.
@@ -124,19 +100,17 @@ pub(crate) fn all_wait<'a>(
     holders: &'a [u8; 64],
     mut states: [u16; 64],
     undos: usize,
-    undo_threads: &'a [u8; 16],
-    undo_words: &'a [u16; 16],
+    undo_keys: &'a [u16; 16],
     redos: usize,
-    redo_threads: &'a [u8; 32],
-    redo_words: &'a [u16; 32],
+    redo_keys: &'a [u16; 32],
 ) -> bool
     requires { ⌜ (words ≤ 512) × ((words % 8 ≡ 0) × ((undos ≤ 16) × (redos ≤ 32))) ⌝ }
     ensures { λ r. ⌜ r ≡ (undosWait words (linesLent (words / 8) (now (holders .entry)) states)
-        (entriesLent undos (now («undo_threads» .entry)) (now («undo_words» .entry)))
+        (entriesLent undos (now («undo_keys» .entry)))
         && redosWait words (linesLent (words / 8) (now (holders .entry)) states)
-        (entriesLent redos (now («redo_threads» .entry)) (now («redo_words» .entry)))) ⌝ }
+        (entriesLent redos (now («redo_keys» .entry)))) ⌝ }
 {
-    let before = undos_wait(words, holders, &mut states, undos, undo_threads, undo_words);
-    let after = redos_wait(words, holders, &mut states, redos, redo_threads, redo_words);
+    let before = undos_wait(words, holders, &mut states, undos, undo_keys);
+    let after = redos_wait(words, holders, &mut states, redos, redo_keys);
     before & after
 }

@@ -3,18 +3,18 @@ ghost use mathlib.Core.Path.{_≡_};
 ghost use lib.ListN.{length, replicate};
 ghost use Rattle.state.specs.HandedBack.{lostFields};
 use crate::CUT;
-use crate::Fields;
-use crate::Made;
+use crate::Machine;
+use crate::Outcome;
 use crate::memory::clear;
 use buffers::RedoBuffer;
 use buffers::UndoBuffer;
 use lines::Lines;
 
 // "dark: one fixed value, its other numbers 0"
-pub fn lost() -> Fields
-    ensures { λ (r : Fields). ⌜ r ≡ lostFields ⌝ }
+pub fn lost() -> Machine
+    ensures { λ (r : Machine). ⌜ r ≡ lostFields ⌝ }
 {
-    Fields {
+    Machine {
         lost: true,
         words: 0,
         slots: 0,
@@ -32,12 +32,12 @@ pub fn lost() -> Fields
 }
 
 // "the answer is 255 (cut), the count left is 0, all working words become 0, and the returned state is dark"
-pub fn cut(working: &mut [u64]) -> Made
-    ensures { λ (r : Made). ⌜ r ≡ record { answer = 255; left = 0; state = lostFields } ⌝ }
-    ensures { λ (r : Made). ⌜ now (working .exit) ≡ replicate (length (now (working .entry))) 0 ⌝ }
+pub fn cut(working: &mut [u64]) -> Outcome
+    ensures { λ (r : Outcome). ⌜ r ≡ record { answer = 255; left = 0; state = lostFields } ⌝ }
+    ensures { λ (r : Outcome). ⌜ now (working .exit) ≡ replicate (length (now (working .entry))) 0 ⌝ }
 {
     clear(working);
-    Made {
+    Outcome {
         answer: CUT,
         left: 0,
         state: lost(),

@@ -1,11 +1,11 @@
 -- A line evicted: the entries that its ULog words add, how many must be logged before, and the state after it.
 use Prim.Native.Nat.{ℕ, _+_, _-_, _*_, _/_, _%_, _≤_, _<_}
 use mathlib.Core.Path.{_≡_, refl, sym, ap, ap₂, _∙_}
-use mathlib.Core.Bool.{true, cond}
+use mathlib.Core.Bool.{Bool, true, false, cond, _||_, not}
 use mathlib.Core.List.{List, [], _++_, map, map-map, append-nil}
 use native.Mathlib.Omega.{arith}
-use borrow.Author.Tests.{lt-ltb}
-use lib.Dec.{ltb}
+use borrow.Author.Tests.{lt-ltb, ltb-true, eqb-true}
+use lib.Dec.{eqb, ltb}
 use lib.ListN.{length, getD, set, drop, length-map}
 use Rattle.parts.specs.declared.Entry.{Entry}
 use Rattle.buffers.specs.declared.RedoBuffer.{RedoBuffer}
@@ -15,27 +15,33 @@ use Rattle.parts.specs.Listed.{listed}
 use Rattle.lines.specs.Lines.{lineAt, firstLines}
 use Rattle.parts.specs.States.{stateAt, ULog}
 use Rattle.buffers.specs.Waiting.{waitingOf, redosWaiting}
-use Rattle.buffers.proofs.Waiting.{WholeKeys, redoAt}
-use Rattle.parts.proofs.Listed.{length-listed}
+use Rattle.buffers.proofs.Waiting.{redoAt}
+use Rattle.parts.proofs.Listed.{length-listed, getD-listed}
+use Rattle.parts.specs.Lines.{nobody}
+use Rattle.log.proofs.Holding.{every-at}
 use Rattle.parts.proofs.Oldest.{length-oldest}
 use Rattle.lines.proofs.FirstLines.{WholeLines}
-use Rattle.model.specs.Lists.{keep}
-use Rattle.model.specs.Machine.{Machine, Memory, withTail, withLines, withRedo, lineOf, statesAs, changed}
+use Rattle.model.specs.Lists.{all, keep}
+use Rattle.model.specs.Consistent.{lineLimits, freeClean}
+use Rattle.model.proofs.Lists.{both-left}
+use Rattle.model.proofs.Fit.{Clauses, all-every}
+use Rattle.model.specs.Machine.{Machine as Model, Memory, withTail, withLines, withRedo, lineOf, statesAs, changed}
 use Rattle.model.specs.Refusals.{numberOf, common, noRoom}
 use Rattle.model.specs.Steps.{evicted, lacking, redoRecord, redoRecords, redosLogged, evictRecords, evictRows, evictNext}
 use Rattle.model.specs.Step.{evict}
 use Rattle.lines.proofs.LinesInUse.{line-in-use, first-changed}
 use Rattle.model.proofs.Rows.{None, none-apply, own-refusals, room}
 use Rattle.lines.specs.Walks.{ulogWords}
-use Rattle.buffers.specs.Filled.{refilled, wordsIn, valuesIn}
+use Rattle.buffers.specs.Filled.{refilled, keysIn, valuesIn}
 use Rattle.buffers.proofs.Refilled.{ulogEntry, entries-refilled}
 use Rattle.lines.proofs.WordStates.{withStates, state-put}
 use Rattle.lines.proofs.LineWords.{keep-below}
-use Rattle.buffers.proofs.Appending.{Appended}
-use Rattle.state.specs.declared.Fields.{Fields}
+use Rattle.log.specs.Appended.{Appended}
+use Rattle.state.specs.declared.Machine.{Machine}
 use Rattle.state.specs.View.{view}
 use Rattle.steps.proofs.Outcome.{common-narrow, Comes}
 use Rattle.steps.proofs.Appending.{appended-of, AppendWay, append-done}
+use Rattle.steps.proofs.LoggingOldest.{WholeRedos}
 use Rattle.steps.proofs.LineRows.{LineFit, line-fit, lineNumber, line-number}
 
 -- no word is ULog where all are Clean
@@ -53,7 +59,7 @@ states-lines : (n : ℕ) (ls : Lines) (i k : ℕ) (ss : List ℕ) → WholeLines
 states-lines n ls i k ss whole h e = rw e (ap (firstLines n) (sym (state-put ls i k)) ∙ first-changed (statesAs k) n ls i whole h)
 
 -- the state that the code makes: other redo entries, other states of the lines, and the tail past `count` records
-abbrev pub setDown : Fields → ℕ → RedoBuffer → List ℕ → Fields
+abbrev pub setDown : Machine → ℕ → RedoBuffer → List ℕ → Machine
 setDown s count grown ss =
     record {
       lost = s .lost;
@@ -67,8 +73,33 @@ setDown s count grown ss =
       redos = grown;
     }
 
+-- what is true of all lines is true of one in use
+line-passes : (f : Line → Bool) (n : ℕ) (ls : Lines) → all f (firstLines n ls) ≡ true → (i : ℕ) → i < n → f (lineAt ls i) ≡ true
+line-passes f n ls e i h =
+    sym (ap f (getD-listed n (lineAt ls) i (lineAt ls 0) h))
+    ∙ every-at (λ l. f l ≡ true) (firstLines n ls) (all-every f (firstLines n ls) e) i (lineAt ls 0) (omega (arith, length-listed n (lineAt ls)))
+
+-- a line with a word that is not Clean is held by a thread
+pub held-thread : (s : Machine) (i : ℕ) → Clauses (view s) → i < s .words / 8 → (getD (s .lines .states) i 0 ≡ 0 → ⊥)
+    → getD (s .lines .holders) i 0 < 8
+unfolding lineLimits freeClean
+held-thread s i c below some = pick (ltb (line .holder) 8) refl
+  where
+    line : Line
+    line = lineAt (s .lines) i
+
+    known : (ltb (line .holder) 8 || eqb (line .holder) nobody) ≡ true
+    known = both-left _ _ (line-passes lineLimits (s .words / 8) (s .lines) (c .lines) i below)
+
+    free : (not (eqb (line .holder) nobody) || eqb (line .states) 0) ≡ true
+    free = line-passes (λ l. not (eqb (l .holder) nobody) || eqb (l .states) 0) (s .words / 8) (s .lines) (c .free) i below
+
+    pick : (t : Bool) → ltb (line .holder) 8 ≡ t → line .holder < 8
+    pick true e = ltb-true (line .holder) 8 e
+    pick false e = let unheld : eqb (line .holder) nobody ≡ true = rw e at known in absurd (some (eqb-true (line .states) 0 (rw unheld at free)))
+
 -- line i, in use
-module _ (s : Fields) (i : ℕ) (below : i < s .words / 8) where
+module _ (s : Machine) (i : ℕ) (below : i < s .words / 8) where
   abbrev line : Line
   line = lineAt (s .lines) i
 
@@ -99,21 +130,20 @@ module _ (s : Fields) (i : ℕ) (below : i < s .words / 8) where
 
   module _ (mem : Memory) (count : ℕ) (lacks : count ≡ lacking (view s) mem i) (within : count ≤ s .redos .len) where
     -- where so many are logged, there is a place for each new entry, and each is put last: k entries, and the arrays of the buffer
-    pub entries-added : (k : ℕ) (ts ws rs : List ℕ) → s .words ≤ 512 → length (mem .working) ≡ s .words → s .redos .len ≤ 32
-        → WholeKeys 32 (s .redos .threads) (s .redos .words) (s .redos .redos) → k ≡ length (ulogWords (line .states))
-        → ts ≡ refilled (λ _. line .holder) (s .redos .len) count (line .states) (s .redos .threads)
-        → ws ≡ cond (ltb i 64) (refilled (wordsIn i) (s .redos .len) count (line .states) (s .redos .words)) (s .redos .words)
+    pub entries-added : (k : ℕ) (ks rs : List ℕ) → s .words ≤ 512 → length (mem .working) ≡ s .words → s .redos .len ≤ 32
+        → WholeRedos (s .redos) → k ≡ length (ulogWords (line .states)) → line .holder < 128
+        → ks ≡ cond (ltb i 64) (refilled (keysIn (line .holder) i) (s .redos .len) count (line .states) (s .redos .keys)) (s .redos .keys)
         → rs ≡ cond (ltb i (length (mem .working) / 8)) (refilled (valuesIn (mem .working) i) (s .redos .len) count (line .states) (s .redos .redos))
         (s .redos .redos)
-        → waitingOf (s .redos .len - count + k) ts ws [] rs ≡ drop count (redosWaiting (s .redos)) ++ evicted (view s) mem i
-    entries-added k ts ws rs narrow sizes few keys counted threads words redos =
+        → waitingOf (s .redos .len - count + k) ks [] rs ≡ drop count (redosWaiting (s .redos)) ++ evicted (view s) mem i
+    entries-added k ks rs narrow sizes few whole counted thread keys redos =
         let a = length-listed (s .redos .len) (redoAt (s .redos)) in
         let b = count-evicted mem in
         let t : ltb i 64 ≡ true = lt-ltb i 64 (omega arith) in
         let u : ltb i (length (mem .working) / 8) ≡ true = rw sizes (lt-ltb i (s .words / 8) below) in
-        rw (threads, words, redos, t, u, counted)
-        (entries-refilled (s .redos .len) count (line .states) (line .holder) i (mem .working) (s .redos .threads) (s .redos .words) (s .redos .redos) keys
-        within few (omega arith)
+        rw (keys, redos, t, u, counted)
+        (entries-refilled (s .redos .len) count (line .states) (line .holder) i (mem .working) (s .redos .keys) (s .redos .redos) whole
+        within few (omega arith) thread (omega arith)
         ∙ ap (λ (xs : List Entry). drop count (redosWaiting (s .redos)) ++ xs) (sym (evicted-by mem)))
 
     -- of a line whose words are all Clean there is none, and none is logged
@@ -144,7 +174,7 @@ module _ (s : Fields) (i : ℕ) (below : i < s .words / 8) where
 pub few-wait : (b : RedoBuffer) → length (redosWaiting b) ≤ 32 → b .len ≤ 32
 few-wait b h = rw length-listed at h
 
-module _ (i : ℕ) (s : Fields) (mem : Memory) where
+module _ (i : ℕ) (s : Machine) (mem : Memory) where
   -- there are as many records as entries lack places
   pub evict-size : (count : ℕ) → count ≡ lacking (view s) mem i → count ≤ s .redos .len → length (evictRecords (view s) mem i) ≡ count
   evict-size count e h = rw (← e) (length-oldest redoRecord count (s .redos .len) (redoAt (s .redos)) h)
@@ -182,7 +212,7 @@ module _ (i : ℕ) (s : Fields) (mem : Memory) where
         (appended-of (λ k. redoRecords k (view s)) count (lacking (view s) mem i) lacks made) refl
         (set-down s i (evict-fit .below) mem count lacks within grown ss (evict-fit .narrow) whole more clean ∙ ap next lacks)
       where
-        next : ℕ → Machine
+        next : ℕ → Model
         next k =
             withLines (changed (statesAs 0) i (view s .lines))
             (withRedo (drop k (redosWaiting (s .redos)) ++ evicted (view s) mem i) (redosLogged k (view s)))

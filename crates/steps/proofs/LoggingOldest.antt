@@ -20,34 +20,34 @@ use Rattle.parts.proofs.Oldest.{length-oldest}
 use Rattle.lines.proofs.FirstLines.{WholeLines}
 use Rattle.parts.proofs.Listed.{length-listed}
 use Rattle.model.specs.Lists.{isEmpty}
-use Rattle.model.specs.Machine.{Machine, Memory}
+use Rattle.model.specs.Machine.{Machine as Model, Memory}
 use Rattle.model.specs.Refusals.{Row, row, numberOf, nothing, noRoom, common}
 use Rattle.model.specs.Steps.{undoRedoRecord, undosLogged, oldestRows}
-use Rattle.lines.specs.Walks.{statesLogged}
+use Rattle.buffers.specs.Records.{statesLogged}
 use Rattle.lines.proofs.WordStates.{withStates}
 use Rattle.buffers.proofs.LoggedLines.{logged-lines}
 use Rattle.model.proofs.Lists.{every-right}
 use Rattle.model.proofs.Rows.{none-apply, number-then, number-more, no-records, oldest-refusals, Room, oldest-room}
 use Rattle.model.proofs.Fit.{Clauses, Fit}
-use Rattle.state.specs.declared.Fields.{Fields}
+use Rattle.state.specs.declared.Machine.{Machine}
 use Rattle.state.specs.View.{view}
 use Rattle.steps.proofs.Outcome.{common-fit, common-narrow}
 
 -- there are 16 places for each field of an undo+redo buffer, and 32 of a redo buffer
 abbrev pub WholeUndos : UndoBuffer → Type 0
-WholeUndos b = WholeBuffer 16 (b .threads) (b .words) (b .undos) (b .redos)
+WholeUndos b = WholeBuffer 16 (b .keys) (b .undos) (b .redos)
 
 abbrev pub WholeRedos : RedoBuffer → Type 0
-WholeRedos b = WholeKeys 32 (b .threads) (b .words) (b .redos)
+WholeRedos b = WholeKeys 32 (b .keys) (b .redos)
 
 -- with no entry it has nothing to log
-pub own-nothing : (m : Machine) (mem : Memory) (records : List Record) → length records ≡ 0 → 12 ≡ numberOf (oldestRows m mem records)
+pub own-nothing : (m : Model) (mem : Memory) (records : List Record) → length records ≡ 0 → 12 ≡ numberOf (oldestRows m mem records)
 unfolding numberOf
 own-nothing m mem [] e = sym (number-then (noRoom m mem 0) (row true nothing ∷ []) (no-records m mem))
 own-nothing m mem (r ∷ records) e = absurd (omega arith)
 
 -- with an entry it needs room for one record
-pub own-room : (m : Machine) (mem : Memory) (records : List Record) (n : ℕ) → length records ≡ 1 → n ≡ numberOf (noRoom m mem 1)
+pub own-room : (m : Model) (mem : Memory) (records : List Record) (n : ℕ) → length records ≡ 1 → n ≡ numberOf (noRoom m mem 1)
     → n ≡ numberOf (oldestRows m mem records)
 unfolding numberOf
 own-room m mem [] n one e = absurd (omega arith)
@@ -63,20 +63,17 @@ pub count-oldest : (f : Entry → Record) (n : ℕ) (at : ℕ → Entry) → len
 count-oldest f n at = rw (length-map, length-take, length-listed)
 
 -- what waits once the k oldest are dropped, the arrays of the buffer being removed
-module _ (k : ℕ) (ts ws vs : List ℕ) where
-  pub undos-rest : (b : UndoBuffer) (us : List ℕ) → WholeUndos b → k ≤ b .len → b .len ≤ 16 → ts ≡ removed 0 k (b .len) (b .threads)
-      → ws ≡ removed 0 k (b .len) (b .words) → us ≡ removed 0 k (b .len) (b .undos) → vs ≡ removed 0 k (b .len) (b .redos)
-      → waitingOf (b .len - k) ts ws us vs ≡ drop k (undosWaiting b)
-  undos-rest b us whole some short t w u v =
-      rw (t, w, u, v) (undos-dropped 16 k (b .len) (b .threads) (b .words) (b .undos) (b .redos) some short whole)
+module _ (k : ℕ) (ks vs : List ℕ) where
+  pub undos-rest : (b : UndoBuffer) (us : List ℕ) → WholeUndos b → k ≤ b .len → b .len ≤ 16 → ks ≡ removed 0 k (b .len) (b .keys)
+      → us ≡ removed 0 k (b .len) (b .undos) → vs ≡ removed 0 k (b .len) (b .redos) → waitingOf (b .len - k) ks us vs ≡ drop k (undosWaiting b)
+  undos-rest b us whole some short e u v = rw (e, u, v) (undos-dropped 16 k (b .len) (b .keys) (b .undos) (b .redos) some short whole)
 
-  pub redos-rest : (b : RedoBuffer) → WholeRedos b → k ≤ b .len → b .len ≤ 32 → ts ≡ removed 0 k (b .len) (b .threads)
-      → ws ≡ removed 0 k (b .len) (b .words) → vs ≡ removed 0 k (b .len) (b .redos) → waitingOf (b .len - k) ts ws [] vs ≡ drop k (redosWaiting b)
-  redos-rest b whole some short t w v =
-      rw (t, w, v) (redos-dropped 32 (b .len) (b .threads) (b .words) (b .redos) short whole k some)
+  pub redos-rest : (b : RedoBuffer) → WholeRedos b → k ≤ b .len → b .len ≤ 32 → ks ≡ removed 0 k (b .len) (b .keys)
+      → vs ≡ removed 0 k (b .len) (b .redos) → waitingOf (b .len - k) ks [] vs ≡ drop k (redosWaiting b)
+  redos-rest b whole some short e v = rw (e, v) (redos-dropped 32 (b .len) (b .keys) (b .redos) short whole k some)
 
 -- the state with k records more, and with other lines and buffers
-abbrev pub withLogged : Fields → ℕ → Lines → UndoBuffer → RedoBuffer → Fields
+abbrev pub withLogged : Machine → ℕ → Lines → UndoBuffer → RedoBuffer → Machine
 withLogged s k lines undos redos =
     record {
       lost = s .lost;
@@ -96,12 +93,12 @@ some-oldest [] e = absurd (false≢true (sym e))
 some-oldest (r ∷ records) e = omega arith
 
 -- where the common rows refuse nothing, head and tail are those of the log
-pub in-log : (m : Machine) (mem : Memory) → numberOf (common m mem) ≡ 0
+pub in-log : (m : Model) (mem : Memory) → numberOf (common m mem) ≡ 0
     → (m .span .head ≤ m .span .tail) × ((m .span .tail ≤ m .span .head + m .sizes .slots) × (m .span .tail ≤ numbers))
 in-log m mem sound = let d = common-fit m mem sound .clauses in (d .order, (d .span, d .tail))
 
 -- What is known once such a step is not refused.
-pub record Known (m : Machine) (mem : Memory) (places n : ℕ) (records : List Record) : Type 0 where
+pub record Known (m : Model) (mem : Memory) (places n : ℕ) (records : List Record) : Type 0 where
   pub fits : Fit m mem
   pub room : Room m (length records)
   pub one : length records ≡ 1
@@ -110,7 +107,7 @@ pub record Known (m : Machine) (mem : Memory) (places n : ℕ) (records : List R
   pub narrow : m .sizes .words ≤ 512
 
 -- it follows from the number 0
-pub known : (f : Entry → Record) (places n : ℕ) (at : ℕ → Entry) (m : Machine) (mem : Memory) (k : ℕ)
+pub known : (f : Entry → Record) (places n : ℕ) (at : ℕ → Entry) (m : Model) (mem : Memory) (k : ℕ)
     → (Clauses m → length (listed n at) ≤ places) → numberOf (common m mem) ≡ 0 → k ≡ numberOf (oldestRows m mem (oldest f n at)) → k ≡ 0
     → Known m mem places n (oldest f n at)
 known f places n at m mem k size sound e zero =
@@ -130,12 +127,12 @@ known f places n at m mem k size sound e zero =
     }
 
 -- the state whose k oldest undo+redo entries are logged, changed in place
-abbrev pub undosGone : Fields → ℕ → List ℕ → UndoBuffer → Fields
+abbrev pub undosGone : Machine → ℕ → List ℕ → UndoBuffer → Machine
 undosGone s k ss rest = withLogged s k (withStates ss (s .lines)) rest (s .redos)
 
 -- their words are marked, the others wait, and the tail is past their records
-pub undos-gone : (s : Fields) (k : ℕ) (ss : List ℕ) (rest : UndoBuffer) → WholeLines (s .lines) → length (s .undos .words) ≡ 16
-    → k ≤ s .undos .len → s .undos .len ≤ 16 → s .words ≤ 512 → ss ≡ statesLogged (take k (s .undos .words)) (s .lines .states)
+pub undos-gone : (s : Machine) (k : ℕ) (ss : List ℕ) (rest : UndoBuffer) → WholeLines (s .lines) → length (s .undos .keys) ≡ 16
+    → k ≤ s .undos .len → s .undos .len ≤ 16 → s .words ≤ 512 → ss ≡ statesLogged (take k (s .undos .keys)) (s .lines .states)
     → undosWaiting rest ≡ drop k (undosWaiting (s .undos)) → view (undosGone s k ss rest) ≡ undosLogged k (view s)
 undos-gone s k ss rest whole places some short narrow marks left =
     let b = s .undos in

@@ -16,23 +16,25 @@ use Rattle.lines.specs.declared.Lines.{Lines}
 use Rattle.lines.specs.Lines.{lineAt, firstLines, putLine}
 use Rattle.parts.specs.States.{Clean, Dirty, ULog}
 use Rattle.buffers.specs.Arrays.{removed}
+use Rattle.buffers.specs.Keys.{keyOf}
 use Rattle.buffers.specs.Waiting.{waitingOf, undosWaiting, redosWaiting}
 use Rattle.parts.specs.Entries.{indexOf, discarded, amended}
 use Rattle.buffers.proofs.Removed.{redos-discarded}
+use Rattle.buffers.proofs.KeyedEntries.{keyed-of}
 use Rattle.parts.proofs.Listed.{length-listed}
 use Rattle.buffers.proofs.Waiting.{undoAt, redoAt, waiting-added}
 use Rattle.lines.proofs.FirstLines.{WholeLines}
 use Rattle.lines.proofs.LinesInUse.{first-changed}
 use Rattle.lines.proofs.WordStates.{withStates, replaced, first-marked}
-use Rattle.model.specs.Machine.{Machine, Memory, changed, marked, heldBy, dirtyAs, stateIn, allLogged, withTail, withLines, withUndoRedo, withRedo}
+use Rattle.model.specs.Machine.{Machine as Model, Memory, changed, marked, heldBy, dirtyAs, stateIn, allLogged, withTail, withLines, withUndoRedo, withRedo}
 use Rattle.model.specs.Steps.{undosLogged, storeLogs, storedAs, storeNext}
 use Rattle.model.proofs.Lists.{both-right}
-use Rattle.state.specs.declared.Fields.{Fields}
+use Rattle.state.specs.declared.Machine.{Machine}
 use Rattle.state.specs.View.{view}
 use Rattle.steps.proofs.LoggingOldest.{WholeUndos, WholeRedos}
 
 -- how many entries are logged first, by the code's tests: for a Clean word, and for any other
-module _ (m : Machine) (w : ℕ) (same : Bool) (k : ℕ) (kind : k ≡ stateIn (m .lines) w) where
+module _ (m : Model) (w : ℕ) (same : Bool) (k : ℕ) (kind : k ≡ stateIn (m .lines) w) where
   pub logs-clean : (t : Bool) (n : ℕ) → n ≡ length (m .buffers .undoRedo) → k ≡ 0 → (not same && leb 16 n) ≡ t
       → cond t 1 0 ≡ storeLogs m w same
   unfolding storeLogs
@@ -47,7 +49,7 @@ module _ (m : Machine) (w : ℕ) (same : Bool) (k : ℕ) (kind : k ≡ stateIn (
       pick false = refl
 
 -- it is one at most, and no more than wait
-pub logs-most : (m : Machine) (w : ℕ) (same : Bool) → (storeLogs m w same ≤ 1) × (storeLogs m w same ≤ length (m .buffers .undoRedo))
+pub logs-most : (m : Model) (w : ℕ) (same : Bool) → (storeLogs m w same ≤ 1) × (storeLogs m w same ≤ length (m .buffers .undoRedo))
 unfolding storeLogs
 logs-most m w same = pick (not same && (clean && full)) refl
   where
@@ -64,7 +66,7 @@ logs-most m w same = pick (not same && (clean && full)) refl
     pick false e = (omega arith, omega arith)
 
 -- where another value comes to a Clean word and at most 16 entries wait, fewer than 16 remain once those are logged that come first
-pub logs-room : (m : Machine) (w : ℕ) (same : Bool) (k n : ℕ) → same ≡ false → k ≡ stateIn (m .lines) w → k ≡ 0 → n ≡ storeLogs m w same
+pub logs-room : (m : Model) (w : ℕ) (same : Bool) (k n : ℕ) → same ≡ false → k ≡ stateIn (m .lines) w → k ≡ 0 → n ≡ storeLogs m w same
     → length (m .buffers .undoRedo) ≤ 16 → length (m .buffers .undoRedo) - n < 16
 unfolding storeLogs
 logs-room m w same k n e kind clean count most = pick (leb 16 (length (m .buffers .undoRedo))) refl
@@ -88,12 +90,12 @@ pub redos-length : (b : RedoBuffer) → length (redosWaiting b) ≡ b .len
 redos-length b = length-listed (b .len) (redoAt b)
 
 -- where no entry is logged, nothing changes
-pub none-logged : (m : Machine) (k : ℕ) → k ≡ 0 → m ≡ undosLogged k m
+pub none-logged : (m : Model) (k : ℕ) → k ≡ 0 → m ≡ undosLogged k m
 unfolding allLogged
 none-logged m k e = rw e (let h : m .span .tail ≡ m .span .tail + 0 = omega arith in ap (λ (n : ℕ). withTail n m) h)
 
 -- what is stored by the word's state: a first entry, another redo, another state, or nothing
-module _ (m : Machine) (e : Entry) (k : ℕ) where
+module _ (m : Model) (e : Entry) (k : ℕ) where
   pub stored-clean : (ls : List Line) (us ds : List Entry) → k ≡ 0 → ls ≡ marked Dirty (e .word) (m .lines)
       → us ≡ m .buffers .undoRedo ++ (e ∷ []) → ds ≡ discarded (e .word) (m .buffers .redo)
       → withLines ls (withRedo ds (withUndoRedo us m)) ≡ storedAs k (e .thread) (e .word) (e .undo) (e .redo) m
@@ -111,7 +113,7 @@ module _ (m : Machine) (e : Entry) (k : ℕ) where
   stored-logged ls k=2 a = rw (k=2, a)
 
 -- a word in any other state, the newest redo not logged, stays as it is
-pub stored-last : (m : Machine) (e : Entry) (k : ℕ) → (k ≡ 0 → ⊥) → (k ≡ 1 → ⊥) → (k ≡ 2 → ⊥)
+pub stored-last : (m : Model) (e : Entry) (k : ℕ) → (k ≡ 0 → ⊥) → (k ≡ 1 → ⊥) → (k ≡ 2 → ⊥)
     → m ≡ storedAs k (e .thread) (e .word) (e .undo) (e .redo) m
 unfolding storedAs
 stored-last m e zero a b d = absurd (a refl)
@@ -120,34 +122,32 @@ stored-last m e (suc (suc zero)) a b d = absurd (d refl)
 stored-last m e (suc (suc (suc k))) a b d = refl
 
 -- the same of a first entry put in place: `ds` are the redo entries that remain
-pub stored-first : (r : Fields) (e : Entry) (k : ℕ) (ts ws us vs states : List ℕ) (ds : List Entry) → WholeLines (r .lines) → WholeUndos (r .undos)
-    → r .undos .len < 16 → r .words ≤ 512 → k ≡ 0 → ts ≡ set (r .undos .threads) (r .undos .len) (e .thread)
-    → ws ≡ set (r .undos .words) (r .undos .len) (e .word) → us ≡ set (r .undos .undos) (r .undos .len) (e .undo)
+pub stored-first : (r : Machine) (e : Entry) (k : ℕ) (ks us vs states : List ℕ) (ds : List Entry) → WholeLines (r .lines) → WholeUndos (r .undos)
+    → r .undos .len < 16 → r .words ≤ 512 → e .thread < 8 → e .word < r .words → k ≡ 0 → ks ≡ set (r .undos .keys) (r .undos .len) (keyOf (e .thread) (e .word))
+    → us ≡ set (r .undos .undos) (r .undos .len) (e .undo)
     → vs ≡ set (r .undos .redos) (r .undos .len) (e .redo) → states ≡ replaced (r .lines .states) (e .word) Dirty
     → ds ≡ discarded (e .word) (redosWaiting (r .redos))
     → withLines (firstLines (r .words / 8) (withStates states (r .lines)))
-    (withRedo ds (withUndoRedo (waitingOf (r .undos .len + 1) ts ws us vs) (view r)))
+    (withRedo ds (withUndoRedo (waitingOf (r .undos .len + 1) ks us vs) (view r)))
     ≡ storedAs k (e .thread) (e .word) (e .undo) (e .redo) (view r)
-stored-first r e k ts ws us vs states ds lines undos short few clean t w u v marks kept =
-    stored-clean (view r) e k (firstLines (r .words / 8) (withStates states (r .lines)))
-    (waitingOf (r .undos .len + 1) ts ws us vs) ds clean
+stored-first r e k ks us vs states ds lines undos short few thread word clean key u v marks kept =
+    stored-clean (view r) e k (firstLines (r .words / 8) (withStates states (r .lines))) (waitingOf (r .undos .len + 1) ks us vs) ds clean
     (rw marks (first-marked (r .words / 8) (r .lines) (e .word) Dirty lines (omega arith)))
-    (rw (t, w, u, v)
-    (waiting-added (r .undos .threads) (r .undos .words) (r .undos .undos) (r .undos .redos) 16 (r .undos .len) e undos short)) kept
+    (rw (key, u, v)
+    (waiting-added (r .undos .keys) (r .undos .undos) (r .undos .redos) (keyOf (e .thread) (e .word)) (e .undo) (e .redo) 16 (r .undos .len) undos short
+    ∙ ap (λ (x : Entry). undosWaiting (r .undos) ++ (x ∷ [])) (keyed-of (e .thread) (e .word) (omega arith) (omega arith) (e .undo) (e .redo)))) kept
 
--- the place that was looked for among as many words as a buffer has entries
-pub place-found : (w len n r : ℕ) (ts ws us rs : List ℕ) → length ws ≡ n → len ≤ n
-    → r ≡ indexOf w (waitingOf (min len (length ws)) ts ws us rs) → r ≡ indexOf w (waitingOf len ts ws us rs)
-place-found w len n r ts ws us rs size short e =
-    let m : min len (length ws) ≡ len = omega arith in
+-- the place that was looked for among as many keys as a buffer has entries
+pub place-found : (w len n r : ℕ) (ks us rs : List ℕ) → length ks ≡ n → len ≤ n
+    → r ≡ indexOf w (waitingOf (min len (length ks)) ks us rs) → r ≡ indexOf w (waitingOf len ks us rs)
+place-found w len n r ks us rs size short e =
+    let m : min len (length ks) ≡ len = omega arith in
     rw m at e
 
 -- the redo entries without that of a word, the arrays of the buffer being removed at its place
-pub redos-kept : (b : RedoBuffer) (w at : ℕ) (ts ws vs : List ℕ) → WholeRedos b → b .len ≤ 32 → at < b .len → at ≡ indexOf w (redosWaiting b)
-    → ts ≡ removed at 1 (b .len) (b .threads) → ws ≡ removed at 1 (b .len) (b .words) → vs ≡ removed at 1 (b .len) (b .redos)
-    → waitingOf (b .len - 1) ts ws [] vs ≡ discarded w (redosWaiting b)
-redos-kept b w at ts ws vs keys short below e t x v =
-    rw (t, x, v) (redos-discarded 32 (b .len) (b .threads) (b .words) (b .redos) short keys w at below e)
+pub redos-kept : (b : RedoBuffer) (w at : ℕ) (ks vs : List ℕ) → WholeRedos b → b .len ≤ 32 → at < b .len → at ≡ indexOf w (redosWaiting b)
+    → ks ≡ removed at 1 (b .len) (b .keys) → vs ≡ removed at 1 (b .len) (b .redos) → waitingOf (b .len - 1) ks [] vs ≡ discarded w (redosWaiting b)
+redos-kept b w at ks vs whole short below e k v = rw (k, v) (redos-discarded 32 (b .len) (b .keys) (b .redos) short whole w at below e)
 
 -- the lines whose line i is claimed by thread t, the arrays being changed in place
 module _ (n : ℕ) (ls : Lines) (i t : ℕ) (hs : List ℕ) (whole : WholeLines ls) (h : n ≤ 64) (held : hs ≡ set (ls .holders) i t) where
@@ -176,18 +176,18 @@ module _ (n : ℕ) (ls : Lines) (i t : ℕ) (hs : List ℕ) (whole : WholeLines 
         }
 
 -- a state with its arrays whole, seen as a state of the model
-pub record WholeState (m : Machine) (r : Fields) : Type 0 where
+pub record WholeState (m : Model) (r : Machine) : Type 0 where
   pub seen : view r ≡ m
   pub lines : WholeLines (r .lines)
   pub undos : WholeUndos (r .undos)
 
 -- the state after a store of the same value, and of another
-module _ (m : Machine) (mem : Memory) (t w v : ℕ) (same : Bool) (ls : List Line) where
+module _ (m : Model) (mem : Memory) (t w v : ℕ) (same : Bool) (ls : List Line) where
   pub next-same : same ≡ true → ls ≡ changed (heldBy t) (w / 8) (m .lines) → withLines ls m ≡ storeNext m mem t w v same
   unfolding storeNext
   next-same e claim = rw (claim, e)
 
-  pub next-other : (old k n : ℕ) (room next : Machine) → same ≡ false → ls ≡ changed (λ line. dirtyAs true (heldBy t line)) (w / 8) (m .lines)
+  pub next-other : (old k n : ℕ) (room next : Model) → same ≡ false → ls ≡ changed (λ line. dirtyAs true (heldBy t line)) (w / 8) (m .lines)
       → getD (mem .working) w 0 ≡ old → n ≡ storeLogs m w same → k ≡ stateIn (m .lines) w → room ≡ undosLogged n (withLines ls m)
       → next ≡ storedAs k t w old v room → next ≡ storeNext m mem t w v same
   unfolding storeNext

@@ -23,8 +23,8 @@ use Rattle.model.proofs.Performing.{puts-home, written-home, cleared}
 use Rattle.model.proofs.Rows.{none-apply, own-refusals}
 use Rattle.lines.specs.Walks.{lineStores}
 use Rattle.lines.proofs.LineStores.{stores-there}
-use Rattle.state.specs.declared.Fields.{Fields}
-use Rattle.state.specs.declared.Made.{Made}
+use Rattle.state.specs.declared.Machine.{Machine}
+use Rattle.state.specs.declared.Outcome.{Outcome}
 use Rattle.state.specs.View.{view}
 use Rattle.steps.proofs.Outcome.{IsCut, Comes, Way, done-way, cut-way}
 use Rattle.steps.proofs.LineRows.{LineFit, line-fit, line-there}
@@ -33,7 +33,7 @@ use Rattle.steps.proofs.LineRows.{LineFit, line-fit, line-there}
 abbrev withFlags : List Bool → Lines → Lines
 withFlags ds ls = record { holders = ls .holders; dirty = ds; states = ls .states }
 
-abbrev flagsReplaced : Fields → List Bool → Fields
+abbrev flagsReplaced : Machine → List Bool → Machine
 flagsReplaced s ds =
     record {
       lost = s .lost;
@@ -56,7 +56,7 @@ flag-lines n ls i d ds whole h e = rw e (ap (firstLines n) (sym flag-put) ∙ fi
     flag-put = simp set-getD
 
 -- What the step hands back once it is not refused.
-module _ (i c : ℕ) (s : Fields) (mem : Memory) (zero : numberOf (common (view s) mem) ≡ 0) (none : numberOf (lineRows (view s) i) ≡ 0) where
+module _ (i c : ℕ) (s : Machine) (mem : Memory) (zero : numberOf (common (view s) mem) ≡ 0) (none : numberOf (lineRows (view s) i) ≡ 0) where
   pub write-fit : LineFit (view s) mem i
   write-fit = line-fit (view s) mem i [] zero (none-apply (lineRows (view s) i) (own-refusals (writeBack i) (view s) mem) none)
 
@@ -76,14 +76,14 @@ module _ (i c : ℕ) (s : Fields) (mem : Memory) (zero : numberOf (common (view 
   there : lineStores (mem .working) i ≡ writes
   there = stores-there (mem .working) i (line-there write-fit)
 
-  module _ (r : Made) (home : List ℕ) (stores : home ≡ storedUnder c (mem .home) (lineStores (mem .working) i)) where
+  module _ (r : Outcome) (home : List ℕ) (stores : home ≡ storedUnder c (mem .home) (lineStores (mem .working) i)) where
     -- what the first c of them leave
     left-by : (after : List ℕ) → record { home = home; working = after; log = mem .log }
         ≡ written mem (take c (putsOf (slotsOf (mem .log)) (s .tail) (map writeHome writes))) after
     left-by after = rw (stores, there, made, written-home mem c writes after)
 
     -- done: the supply was enough, and the line's flag was cleared
-    pub write-done : {taken : Fields} → (flags : List Bool) → 8 ≤ c → r .answer ≡ 0 → r .left ≡ c - length (lineStores (mem .working) i) → r .state ≡ flagsReplaced s flags
+    pub write-done : {taken : Machine} → (flags : List Bool) → 8 ≤ c → r .answer ≡ 0 → r .left ≡ c - length (lineStores (mem .working) i) → r .state ≡ flagsReplaced s flags
         → WholeLines (s .lines) → flags ≡ set (s .lines .dirty) i false → Comes (writeBack i) c (view s) mem taken r home (mem .working) (mem .log)
     write-done {taken} flags h answer left state whole cleared =
         let narrow = write-fit .narrow in
@@ -93,5 +93,5 @@ module _ (i c : ℕ) (s : Fields) (mem : Memory) (zero : numberOf (common (view 
         (left-by (mem .working))
 
     -- cut: it was not
-    pub write-cut : {taken : Fields} → (after : List ℕ) → c < 8 → IsCut r → after ≡ cleared mem → Comes (writeBack i) c (view s) mem taken r home after (mem .log)
+    pub write-cut : {taken : Machine} → (after : List ℕ) → c < 8 → IsCut r → after ≡ cleared mem → Comes (writeBack i) c (view s) mem taken r home after (mem .log)
     write-cut {taken} after h answer clear = cut-way way c r home (mem .log) after (rw (made, length-map, eight) h) answer clear (left-by (cleared mem))

@@ -1,6 +1,7 @@
 // One number of an array of the state read or replaced, the array lent by itself.
 ghost use mathlib.Core.Path.{_≡_};
-ghost use Prim.Native.Nat.{_<_};
+ghost use mathlib.Core.Bool.{false};
+ghost use Prim.Native.Nat.{_%_, _<_};
 ghost use lib.ListN.{getD, set};
 
 pub(crate) fn put_holder(holders: &mut [u8; 64], line: usize, thread: u8)
@@ -29,6 +30,13 @@ pub(crate) fn put_value(values: &mut [u64; 16], at: usize, value: u64)
     ensures { λ _. ⌜ now (values .exit) ≡ set (now (values .entry)) at value ⌝ }
 {
     values[at] = value;
+}
+
+// A thread has an open transaction; of a number above 7, the thread of its low bits.
+pub(crate) fn is_open(opened: &[bool; 8], thread: u64) -> bool
+    ensures { λ r. ⌜ r ≡ getD (now (opened .entry)) (thread % 8) false ⌝ }
+{
+    opened[(thread % 8) as usize]
 }
 
 // The states of a line, and its holder, by those of all 64.

@@ -9,16 +9,16 @@ use crate::refusals::refuse;
 use crate::refusals::refused;
 use state::BUSY;
 use state::DONE;
-use state::Fields;
-use state::Made;
+use state::Machine;
+use state::Outcome;
 use state::THREAD;
 
 // The step, of a state that is neither lost nor inconsistent.
-pub(crate) fn begun(mut state: Fields, supply: u64, thread: u64) -> Made
+pub(crate) fn begun(mut state: Machine, supply: u64, thread: u64) -> Outcome
     requires { ⌜ numberOf (stateRows (view state)) ≡ 0 ⌝ }
-    ensures { λ (r : Made). ⌜ ((mem : Memory) → shown r (mem .home) (mem .working) (mem .log)
+    ensures { λ (r : Outcome). ⌜ ((mem : Memory) → shown r (mem .home) (mem .working) (mem .log)
         ≡ stepped (begin thread) supply (view state) mem) ⌝ }
-    ensures { λ (r : Made). ⌜ HandedBack state r ⌝ }
+    ensures { λ (r : Outcome). ⌜ HandedBack state r ⌝ }
 {
     let t = (thread % 8) as usize;
     let number = refuse(7 < thread, THREAD, refuse(state.opened[t], BUSY, 0));
@@ -26,7 +26,7 @@ pub(crate) fn begun(mut state: Fields, supply: u64, thread: u64) -> Made
         return refused(number, supply, state);
     }
     state.opened[t] = true;
-    Made {
+    Outcome {
         answer: DONE,
         left: supply,
         state: state,

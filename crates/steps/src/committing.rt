@@ -6,7 +6,7 @@ ghost use mathlib.Core.List.{List};
 ghost use Prim.Native.Nat.{ℕ, _+_, _%_, _≤_, _<_};
 ghost use lib.ListN.{length, getD};
 ghost use Rattle.log.specs.Region.{numbers};
-ghost use Rattle.model.specs.Machine.{Machine, Memory};
+ghost use Rattle.model.specs.Machine.{Machine as Model, Memory};
 ghost use Rattle.model.specs.Refusals.{numberOf, common as commonRows};
 ghost use Rattle.model.specs.Steps.{commitRecords, commitRows};
 ghost use Rattle.model.specs.Step.{commit, stepped};
@@ -14,18 +14,22 @@ ghost use Rattle.state.specs.View.{view, memory, shown};
 ghost use Rattle.state.specs.HandedBack.{HandedBack};
 ghost use Rattle.steps.specs.Committing.{HasEntries, Allowed};
 ghost use Rattle.steps.specs.Steps.{TakenOut, LogOf};
+use crate::arrays::is_open;
 use crate::refusals::no_room;
 use crate::refusals::refuse;
 use crate::refusals::refused;
-use buffers::append_commit;
+use buffers::append_redos;
+use buffers::append_undos;
+use buffers::mark_logged;
+use lines::append_newest;
 use lines::count_newest;
-use lines::mark_logged;
 use lines::release_holders;
 use lines::release_states;
+use log::Record;
 use state::DONE;
-use state::Fields;
 use state::IDLE;
-use state::Made;
+use state::Machine;
+use state::Outcome;
 use state::THREAD;
 use state::cut;
 
@@ -39,7 +43,7 @@ fn count_records<'a>(
     thread: u64,
 ) -> u64
     requires { ⌜ (words ≤ 512) × ((words % 8 ≡ 0) × ((undos ≤ 16) × (redos ≤ 32))) ⌝ }
-    ensures { λ r. ⌜ ((s : Fields) → HasEntries undos redos words (now (holders .entry)) (now (states .entry)) s
+    ensures { λ r. ⌜ ((s : Machine) → HasEntries undos redos words (now (holders .entry)) (now (states .entry)) s
         → (mem : Memory) → r ≡ length (commitRecords (view s) mem thread)) ⌝ }
     ensures { λ r. ⌜ r ≤ 1024 ⌝ }
 {
@@ -51,7 +55,7 @@ fn count_records<'a>(
 // `count` records.
 fn commit_refusal(opened: bool, slots: u16, head: u64, tail: u64, thread: u64, count: u64) -> u64
     requires { ⌜ (head ≤ tail) × ((tail ≤ head + slots) × ((tail ≤ numbers) × (count ≤ 2048))) ⌝ }
-    ensures { λ r. ⌜ ((m : Machine) (mem : Memory) → getD (m .opened) (thread % 8) false ≡ opened
+    ensures { λ r. ⌜ ((m : Model) (mem : Memory) → getD (m .opened) (thread % 8) false ≡ opened
         → LogOf slots head tail m
         → count ≡ length (commitRecords m mem thread) → r ≡ numberOf (commitRows m mem thread)) ⌝ }
 {
@@ -64,16 +68,16 @@ fn commit_refusal(opened: bool, slots: u16, head: u64, tail: u64, thread: u64, c
 
 // A commit that no row refuses and that logs `count` records: done or cut.
 fn carry_out(
-    mut state: Fields,
+    mut state: Machine,
     working: &mut [u64],
     log: &mut [u64],
     supply: u64,
     thread: u64,
     count: u64,
-) -> Made
-    requires { ⌜ (thread < 8) × ((state .words ≤ 512) × ((state .undos .len ≤ 16)
-        × (state .tail + count ≤ numbers))) ⌝ }
-    ensures { λ (r : Made). ⌜ ((home : List ℕ)
+) -> Outcome
+    requires { ⌜ (thread < 8) × ((state .words ≤ 512) × ((state .undos .len ≤ 16) × ((state .redos .len ≤ 32)
+        × ((1 ≤ count) × (state .tail + count ≤ numbers))))) ⌝ }
+    ensures { λ (r : Outcome). ⌜ ((home : List ℕ)
         → Allowed thread count (view state) (memory home (now (working .entry)) (now (log .entry)))
         → (shown r home (now (working .exit)) (now (log .exit))
         ≡ stepped (commit thread) supply (view state) (memory home (now (working .entry)) (now (log .entry))))
@@ -81,29 +85,44 @@ fn carry_out(
 {
     let undos = state.undos.len;
     let redos = state.redos.len;
-    let left = append_commit(
+    let first = append_undos(
         log,
-        working,
         state.tail,
-        undos,
-        &state.undos.threads,
-        &state.undos.words,
+        &state.undos.keys,
         &state.undos.undos,
         &state.undos.redos,
-        redos,
-        &state.redos.threads,
-        &state.redos.words,
+        undos,
+        supply,
+    );
+    let second = state.tail + undos as u64;
+    let after = append_redos(
+        log,
+        second,
+        &state.redos.keys,
         &state.redos.redos,
+        redos,
+        first,
+    );
+    let third = second + redos as u64;
+    let rest = append_newest(
+        log,
+        third,
+        working,
         &state.lines.holders,
         &state.lines.states,
         thread as u8,
-        supply,
+        after,
     );
+    let last = state.tail + count - 1;
+    let record = Record::Commit {
+        thread: thread as u8,
+    };
+    let left = log::append(log, last, record, rest);
     if supply < 3 * count {
         return cut(working);
     }
-    let words = state.undos.words;
-    mark_logged(&mut state.lines.states, &words, undos);
+    let keys = state.undos.keys;
+    mark_logged(&mut state.lines.states, &keys, undos);
     let holders = state.lines.holders;
     let lines = (state.words / 8) as usize;
     release_states(&mut state.lines.states, &holders, lines, thread as u8);
@@ -112,7 +131,7 @@ fn carry_out(
     state.redos.len = 0;
     state.opened[thread as usize] = false;
     state.tail = state.tail + count;
-    Made {
+    Outcome {
         answer: DONE,
         left: left,
         state: state,
@@ -121,8 +140,7 @@ fn carry_out(
 
 // The step, of a state that the common rows do not refuse; the lent arrays are taken out of it.
 pub(crate) fn committed<'a>(
-    state: Fields,
-    opened: &'a [bool; 8],
+    state: Machine,
     holders: &'a [u8; 64],
     states: &'a [u16; 64],
     home: &[u64],
@@ -130,18 +148,19 @@ pub(crate) fn committed<'a>(
     log: &mut [u64],
     supply: u64,
     thread: u64,
-) -> Made
-    requires { ⌜ TakenOut (now opened) (now holders) (now states) state ⌝ }
+) -> Outcome
+    requires { ⌜ TakenOut (now holders) (now states) state ⌝ }
     requires { ⌜ numberOf (commonRows (view state) (memory (now home) (now working) (now log))) ≡ 0 ⌝ }
-    ensures { λ (r : Made). ⌜ shown r (now (home .entry)) (now (working .exit)) (now (log .exit))
+    ensures { λ (r : Outcome). ⌜ shown r (now (home .entry)) (now (working .exit)) (now (log .exit))
         ≡ stepped (commit thread) supply (view state) (memory (now (home .entry)) (now (working .entry)) (now
         (log .entry))) ⌝ }
-    ensures { λ (r : Made). ⌜ HandedBack state r ⌝ }
+    ensures { λ (r : Outcome). ⌜ HandedBack state r ⌝ }
 {
     let undos = state.undos.len;
     let redos = state.redos.len;
+    let opened = state.opened;
     let count = count_records(undos, redos, state.words, holders, states, thread);
-    let open = opened[(thread % 8) as usize];
+    let open = is_open(&opened, thread);
     let number = commit_refusal(open, state.slots, state.head, state.tail, thread, count);
     if number != 0 {
         return refused(number, supply, state);

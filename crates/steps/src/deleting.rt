@@ -10,10 +10,10 @@ use parts::Verdict;
 use recovery::oldest_verdict;
 use state::DAMAGED;
 use state::DONE;
-use state::Fields;
-use state::Made;
+use state::Machine;
 use state::NEEDED;
 use state::NOTHING;
+use state::Outcome;
 use state::cut;
 
 // The number under which a delete is refused by the verdict on the oldest record, or 0.
@@ -31,17 +31,17 @@ fn refusal(verdict: Verdict) -> u64
 
 // The step, of a state that the common rows do not refuse.
 pub(crate) fn deleted(
-    mut state: Fields,
+    mut state: Machine,
     home: &[u64],
     working: &mut [u64],
     log: &mut [u64],
     supply: u64,
-) -> Made
+) -> Outcome
     requires { ⌜ numberOf (commonRows (view state) (memory (now home) (now working) (now log))) ≡ 0 ⌝ }
-    ensures { λ (r : Made). ⌜ shown r (now (home .entry)) (now (working .exit)) (now (log .exit))
+    ensures { λ (r : Outcome). ⌜ shown r (now (home .entry)) (now (working .exit)) (now (log .exit))
         ≡ stepped deleteOldest supply (view state) (memory (now (home .entry)) (now (working .entry)) (now
         (log .entry))) ⌝ }
-    ensures { λ (r : Made). ⌜ HandedBack state r ⌝ }
+    ensures { λ (r : Outcome). ⌜ HandedBack state r ⌝ }
 {
     let dirty = state.lines.dirty;
     let number = refusal(oldest_verdict(state.head, state.tail, state.words, &dirty, log));
@@ -54,7 +54,7 @@ pub(crate) fn deleted(
         return cut(working);
     }
     state.head = head;
-    Made {
+    Outcome {
         answer: DONE,
         left: left,
         state: state,

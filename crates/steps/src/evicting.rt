@@ -15,13 +15,12 @@ use crate::refusals::no_room;
 use crate::refusals::refused;
 use crate::writing_back::line_refusal;
 use buffers::append_redos;
+use buffers::refill_keys;
 use buffers::refill_redos;
-use buffers::refill_threads;
-use buffers::refill_words;
 use lines::count_ulog;
 use state::DONE;
-use state::Fields;
-use state::Made;
+use state::Machine;
+use state::Outcome;
 use state::cut;
 
 // How many of `len` redo entries have to be logged for those of a line to find places.
@@ -37,18 +36,18 @@ fn lacking(len: usize, states: &[u16; 64], line: u64) -> usize
 
 // The step, of a state that the common rows do not refuse. A line whose words are all Clean stays as it is.
 pub(crate) fn evicted(
-    mut state: Fields,
+    mut state: Machine,
     home: &[u64],
     working: &mut [u64],
     log: &mut [u64],
     supply: u64,
     line: u64,
-) -> Made
+) -> Outcome
     requires { ⌜ numberOf (commonRows (view state) (memory (now home) (now working) (now log))) ≡ 0 ⌝ }
-    ensures { λ (r : Made). ⌜ shown r (now (home .entry)) (now (working .exit)) (now (log .exit))
+    ensures { λ (r : Outcome). ⌜ shown r (now (home .entry)) (now (working .exit)) (now (log .exit))
         ≡ stepped (evict line) supply (view state) (memory (now (home .entry)) (now (working .entry)) (now
         (log .entry))) ⌝ }
-    ensures { λ (r : Made). ⌜ HandedBack state r ⌝ }
+    ensures { λ (r : Outcome). ⌜ HandedBack state r ⌝ }
 {
     let count = lacking(state.redos.len, &state.lines.states, line);
     let room = no_room(state.slots, state.head, state.tail, count as u64);
@@ -60,9 +59,7 @@ pub(crate) fn evicted(
     let left = append_redos(
         log,
         state.tail,
-        state.redos.len,
-        &state.redos.threads,
-        &state.redos.words,
+        &state.redos.keys,
         &state.redos.redos,
         count,
         supply,
@@ -74,14 +71,13 @@ pub(crate) fn evicted(
     if states != 0 {
         let len = state.redos.len;
         let holder = holder_at(&state.lines.holders, at);
-        refill_threads(&mut state.redos.threads, len, count, states, holder);
-        refill_words(&mut state.redos.words, len, count, states, at);
+        refill_keys(&mut state.redos.keys, len, count, states, holder, at);
         refill_redos(&mut state.redos.redos, len, count, states, working, at);
         state.redos.len = len - count + count_ulog(states);
         put_states(&mut state.lines.states, at, 0);
     }
     state.tail = state.tail + count as u64;
-    Made {
+    Outcome {
         answer: DONE,
         left: left,
         state: state,

@@ -5,7 +5,7 @@ ghost use Prim.Native.Nat.{_+_, _≤_, min};
 ghost use lib.ListN.{length};
 ghost use Rattle.log.specs.declared.Record.{Record};
 ghost use Rattle.log.specs.Region.{numbers};
-ghost use Rattle.model.specs.Machine.{Machine, Memory};
+ghost use Rattle.model.specs.Machine.{Machine as Model, Memory};
 ghost use Rattle.model.specs.Refusals.{numberOf, common as commonRows};
 ghost use Rattle.model.specs.Steps.{oldestRows};
 ghost use Rattle.model.specs.Step.{logUndo, logRedo, stepped};
@@ -18,17 +18,17 @@ use buffers::RedoBuffer;
 use buffers::UndoBuffer;
 use buffers::append_redos;
 use buffers::append_undos;
-use lines::mark_logged;
+use buffers::mark_logged;
 use state::DONE;
-use state::Fields;
-use state::Made;
+use state::Machine;
 use state::NOTHING;
+use state::Outcome;
 use state::cut;
 
 // The number under which the oldest entry of a buffer of `len` entries is not logged, or 0.
 fn refusal(len: usize, slots: u16, head: u64, tail: u64) -> u64
     requires { ⌜ (head ≤ tail) × ((tail ≤ head + slots) × (tail ≤ numbers)) ⌝ }
-    ensures { λ r. ⌜ ((m : Machine) (mem : Memory) (records : List Record) → LogOf slots head tail m → length records
+    ensures { λ r. ⌜ ((m : Model) (mem : Memory) (records : List Record) → LogOf slots head tail m → length records
         ≡ min 1 len
         → r ≡ numberOf (oldestRows m mem records)) ⌝ }
 {
@@ -40,16 +40,16 @@ fn refusal(len: usize, slots: u16, head: u64, tail: u64) -> u64
 
 // The step log undo, of a state that the common rows do not refuse.
 pub(crate) fn undo_logged(
-    mut state: Fields,
+    mut state: Machine,
     home: &[u64],
     working: &mut [u64],
     log: &mut [u64],
     supply: u64,
-) -> Made
+) -> Outcome
     requires { ⌜ numberOf (commonRows (view state) (memory (now home) (now working) (now log))) ≡ 0 ⌝ }
-    ensures { λ (r : Made). ⌜ shown r (now (home .entry)) (now (working .exit)) (now (log .exit))
+    ensures { λ (r : Outcome). ⌜ shown r (now (home .entry)) (now (working .exit)) (now (log .exit))
         ≡ stepped logUndo supply (view state) (memory (now (home .entry)) (now (working .entry)) (now (log .entry))) ⌝ }
-    ensures { λ (r : Made). ⌜ HandedBack state r ⌝ }
+    ensures { λ (r : Outcome). ⌜ HandedBack state r ⌝ }
 {
     let number = refusal(state.undos.len, state.slots, state.head, state.tail);
     if number != 0 {
@@ -58,9 +58,7 @@ pub(crate) fn undo_logged(
     let left = append_undos(
         log,
         state.tail,
-        state.undos.len,
-        &state.undos.threads,
-        &state.undos.words,
+        &state.undos.keys,
         &state.undos.undos,
         &state.undos.redos,
         1,
@@ -69,16 +67,15 @@ pub(crate) fn undo_logged(
     if supply < 3 {
         return cut(working);
     }
-    let words = state.undos.words;
-    mark_logged(&mut state.lines.states, &words, 1);
+    let keys = state.undos.keys;
+    mark_logged(&mut state.lines.states, &keys, 1);
     let len = state.undos.len;
-    UndoBuffer::remove_threads(&mut state.undos.threads, 0, 1, len);
-    UndoBuffer::remove_words(&mut state.undos.words, 0, 1, len);
+    UndoBuffer::remove_keys(&mut state.undos.keys, 0, 1, len);
     UndoBuffer::remove_values(&mut state.undos.undos, 0, 1, len);
     UndoBuffer::remove_values(&mut state.undos.redos, 0, 1, len);
     state.undos.len = len - 1;
     state.tail = state.tail + 1;
-    Made {
+    Outcome {
         answer: DONE,
         left: left,
         state: state,
@@ -87,16 +84,16 @@ pub(crate) fn undo_logged(
 
 // The step log redo, in the same way.
 pub(crate) fn redo_logged(
-    mut state: Fields,
+    mut state: Machine,
     home: &[u64],
     working: &mut [u64],
     log: &mut [u64],
     supply: u64,
-) -> Made
+) -> Outcome
     requires { ⌜ numberOf (commonRows (view state) (memory (now home) (now working) (now log))) ≡ 0 ⌝ }
-    ensures { λ (r : Made). ⌜ shown r (now (home .entry)) (now (working .exit)) (now (log .exit))
+    ensures { λ (r : Outcome). ⌜ shown r (now (home .entry)) (now (working .exit)) (now (log .exit))
         ≡ stepped logRedo supply (view state) (memory (now (home .entry)) (now (working .entry)) (now (log .entry))) ⌝ }
-    ensures { λ (r : Made). ⌜ HandedBack state r ⌝ }
+    ensures { λ (r : Outcome). ⌜ HandedBack state r ⌝ }
 {
     let number = refusal(state.redos.len, state.slots, state.head, state.tail);
     if number != 0 {
@@ -105,9 +102,7 @@ pub(crate) fn redo_logged(
     let left = append_redos(
         log,
         state.tail,
-        state.redos.len,
-        &state.redos.threads,
-        &state.redos.words,
+        &state.redos.keys,
         &state.redos.redos,
         1,
         supply,
@@ -116,12 +111,11 @@ pub(crate) fn redo_logged(
         return cut(working);
     }
     let len = state.redos.len;
-    RedoBuffer::remove_threads(&mut state.redos.threads, 0, 1, len);
-    RedoBuffer::remove_words(&mut state.redos.words, 0, 1, len);
+    RedoBuffer::remove_keys(&mut state.redos.keys, 0, 1, len);
     RedoBuffer::remove_values(&mut state.redos.redos, 0, 1, len);
     state.redos.len = len - 1;
     state.tail = state.tail + 1;
-    Made {
+    Outcome {
         answer: DONE,
         left: left,
         state: state,

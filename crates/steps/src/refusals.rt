@@ -3,7 +3,7 @@ ghost use mathlib.Core.Path.{_≡_};
 ghost use mathlib.Core.Bool.{cond};
 ghost use Prim.Native.Nat.{_+_, _≤_};
 ghost use Rattle.log.specs.Region.{numbers};
-ghost use Rattle.model.specs.Machine.{Machine, Memory};
+ghost use Rattle.model.specs.Machine.{Machine as Model, Memory};
 ghost use Rattle.model.specs.Consistent.{consistent};
 ghost use Rattle.model.specs.Refusals.{numberOf, noRoom, common as commonRows};
 ghost use Rattle.state.specs.View.{memory};
@@ -12,17 +12,17 @@ use crate::sizes::wrong_size;
 use log::NUMBERS;
 use state::EXHAUSTED;
 use state::FULL;
-use state::Fields;
 use state::INCONSISTENT;
 use state::LOST;
-use state::Made;
+use state::Machine;
+use state::Outcome;
 use state::SIZE;
 
 // "State, buffers and count are unchanged"
-pub(crate) fn refused(number: u64, supply: u64, state: Fields) -> Made
-    ensures { λ (r : Made). ⌜ r ≡ record { answer = number; left = supply; state = state } ⌝ }
+pub(crate) fn refused(number: u64, supply: u64, state: Machine) -> Outcome
+    ensures { λ (r : Outcome). ⌜ r ≡ record { answer = number; left = supply; state = state } ⌝ }
 {
-    Made {
+    Outcome {
         answer: number,
         left: supply,
         state: state,
@@ -48,7 +48,7 @@ pub(crate) fn common(
     working: &[u64],
     log: &[u64],
 ) -> u64
-    ensures { λ r. ⌜ ((m : Machine) → m .lost ≡ lost → m .sizes .words ≡ words → m .sizes .slots ≡ slots
+    ensures { λ r. ⌜ ((m : Model) → m .lost ≡ lost → m .sizes .words ≡ words → m .sizes .slots ≡ slots
         → m .span .head ≡ head → sound ≡ consistent m
         → r ≡ numberOf (commonRows m (memory (now (home .entry)) (now (working .entry)) (now (log .entry))))) ⌝ }
 {
@@ -63,7 +63,7 @@ pub(crate) fn common(
 // The rows of a step that logs `count` records; head and tail are those of a log of so many slots.
 pub(crate) fn no_room(slots: u16, head: u64, tail: u64, count: u64) -> u64
     requires { ⌜ (head ≤ tail) × ((tail ≤ head + slots) × ((tail ≤ numbers) × (count ≤ 2048))) ⌝ }
-    ensures { λ r. ⌜ ((m : Machine) (mem : Memory) → LogOf slots head tail m → r ≡ numberOf (noRoom m mem count)) ⌝ }
+    ensures { λ r. ⌜ ((m : Model) (mem : Memory) → LogOf slots head tail m → r ≡ numberOf (noRoom m mem count)) ⌝ }
 {
     let free = slots as u64 - (tail - head);
     refuse(

@@ -20,10 +20,11 @@ use crate::storing::stored;
 use crate::writing_back::written_back;
 use parts::Step;
 use recovery::recover;
-use state::Fields;
+use state::Counts;
 use state::INCONSISTENT;
 use state::LOST;
-use state::Made;
+use state::Machine;
+use state::Outcome;
 use state::is_consistent;
 
 // Every step but a recovery takes a state.
@@ -39,7 +40,7 @@ fn takes_state(step: Step) -> bool
 // The number of the rows that come before a step's own, or 0; `sound` says whether the state that it takes is
 // consistent. A recovery has none, and a begin is lent no buffers.
 fn first_refusal(
-    state: Fields,
+    state: Machine,
     step: Step,
     sound: bool,
     home: &[u64],
@@ -68,8 +69,7 @@ fn first_refusal(
 
 // The step, if none of these rows refuses it. The lent arrays are the state's own, taken out of it to be looked at.
 fn dispatch<'a>(
-    state: Fields,
-    opened: &'a [bool; 8],
+    state: Machine,
     holders: &'a [u8; 64],
     states: &'a [u16; 64],
     step: Step,
@@ -77,12 +77,12 @@ fn dispatch<'a>(
     working: &mut [u64],
     log: &mut [u64],
     supply: u64,
-) -> Made
-    requires { ⌜ TakenOut (now opened) (now holders) (now states) state ⌝ }
+) -> Outcome
+    requires { ⌜ TakenOut (now holders) (now states) state ⌝ }
     requires { ⌜ numberOf (firstRows step (view state) (memory (now home) (now working) (now log))) ≡ 0 ⌝ }
-    ensures { λ (r : Made). ⌜ shown r (now (home .exit)) (now (working .exit)) (now (log .exit))
+    ensures { λ (r : Outcome). ⌜ shown r (now (home .exit)) (now (working .exit)) (now (log .exit))
         ≡ stepped step supply (view state) (memory (now (home .entry)) (now (working .entry)) (now (log .entry))) ⌝ }
-    ensures { λ (r : Made). ⌜ HandedBack (takenFields step state) r ⌝ }
+    ensures { λ (r : Outcome). ⌜ HandedBack (takenFields step state) r ⌝ }
 {
     match step {
         Step::Begin { thread } => begun(state, supply, thread),
@@ -90,88 +90,51 @@ fn dispatch<'a>(
             thread,
             word,
             value,
-        } => stored(
-            state,
-            opened,
-            holders,
-            states,
-            home,
-            working,
-            log,
-            supply,
-            thread,
-            word,
-            value,
-        ),
+        } => stored(state, home, working, log, supply, thread, word, value),
         Step::LogUndo => undo_logged(state, home, working, log, supply),
         Step::LogRedo => redo_logged(state, home, working, log, supply),
         Step::Evict { line } => evicted(state, home, working, log, supply, line),
-        Step::WriteBack { line } => written_back(state, states, home, working, log, supply, line),
-        Step::Commit { thread } => committed(
-            state,
-            opened,
-            holders,
-            states,
-            home,
-            working,
-            log,
-            supply,
-            thread,
-        ),
+        Step::WriteBack { line } => written_back(state, home, working, log, supply, line),
+        Step::Commit { thread } => {
+            committed(state, holders, states, home, working, log, supply, thread)
+        }
         Step::DeleteOldest => deleted(state, home, working, log, supply),
         Step::Recover => recover(home, working, log, supply),
     }
 }
 
-// The arrays that the test of consistency looks at are taken out and lent, so that the rest of the state is not copied.
+// A step on a state. What comes before its own rows is looked at here, once for all steps. The arrays that the test of
+// consistency looks at are taken out and lent, so that the rest of the state is not copied.
 pub fn perform(
-    state: Fields,
+    state: Machine,
     step: Step,
     home: &mut [u64],
     working: &mut [u64],
     log: &mut [u64],
     supply: u64,
-) -> Made
-    ensures { λ (r : Made). ⌜ shown r (now (home .exit)) (now (working .exit)) (now (log .exit))
+) -> Outcome
+    ensures { λ (r : Outcome). ⌜ shown r (now (home .exit)) (now (working .exit)) (now (log .exit))
         ≡ stepped step supply (view state) (memory (now (home .entry)) (now (working .entry)) (now (log .entry))) ⌝ }
-    ensures { λ (r : Made). ⌜ HandedBack (takenFields step state) r ⌝ }
+    ensures { λ (r : Outcome). ⌜ HandedBack (takenFields step state) r ⌝ }
 {
+    let counts = Counts {
+        words: state.words,
+        slots: state.slots,
+        head: state.head,
+        tail: state.tail,
+        undos: state.undos.len,
+        redos: state.redos.len,
+    };
     let opened = state.opened;
     let holders = state.lines.holders;
     let states = state.lines.states;
-    let undo_threads = state.undos.threads;
-    let undo_words = state.undos.words;
-    let redo_threads = state.redos.threads;
-    let redo_words = state.redos.words;
+    let undo_keys = state.undos.keys;
+    let redo_keys = state.redos.keys;
     let sound = takes_state(step)
-        && is_consistent(
-            state.words,
-            state.slots,
-            state.head,
-            state.tail,
-            &opened,
-            &holders,
-            &states,
-            state.undos.len,
-            &undo_threads,
-            &undo_words,
-            state.redos.len,
-            &redo_threads,
-            &redo_words,
-        );
+        && is_consistent(counts, &opened, &holders, &states, &undo_keys, &redo_keys);
     let number = first_refusal(state, step, sound, home, working, log);
     if number != 0 {
         return refused(number, supply, state);
     }
-    dispatch(
-        state,
-        &opened,
-        &holders,
-        &states,
-        step,
-        home,
-        working,
-        log,
-        supply,
-    )
+    dispatch(state, &holders, &states, step, home, working, log, supply)
 }

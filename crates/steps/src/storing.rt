@@ -8,16 +8,15 @@ ghost use lib.ListN.{getD};
 ghost use Rattle.log.specs.Region.{numbers};
 ghost use Rattle.parts.specs.Lines.{nobody};
 ghost use Rattle.lines.specs.Lines.{firstLines};
-ghost use Rattle.model.specs.Machine.{Machine, Memory, holderIn};
+ghost use Rattle.model.specs.Machine.{Machine as Model, Memory, holderIn};
 ghost use Rattle.model.specs.Refusals.{numberOf, row, idle as idleNumber, held, noRoom};
 ghost use Rattle.model.specs.Refusals.{common as commonRows, unknownThread, unknownWord};
 ghost use Rattle.model.specs.Step.{store, stepped};
 ghost use Rattle.model.specs.Steps.{storeLogs, storeNext};
-ghost use Rattle.buffers.specs.Progressed.{Stored};
-ghost use Rattle.buffers.specs.Records.{undoRecordsOf};
 ghost use Rattle.state.specs.View.{view, memory, shown};
 ghost use Rattle.state.specs.HandedBack.{HandedBack};
-ghost use Rattle.steps.specs.Steps.{TakenOut, LogOf};
+ghost use Rattle.steps.specs.Steps.{LogOf};
+use crate::arrays::is_open;
 use crate::arrays::put_flag;
 use crate::arrays::put_holder;
 use crate::arrays::put_value;
@@ -27,25 +26,24 @@ use crate::refusals::refused;
 use crate::words::holder_of;
 use crate::words::state_of;
 use buffers::RedoBuffer;
-use buffers::UndoBuffer;
 use buffers::append_undos;
 use buffers::find;
-use buffers::push_thread;
+use buffers::key;
+use buffers::mark_logged;
+use buffers::push_key;
 use buffers::push_value;
-use buffers::push_word;
 use lines::CLEAN;
 use lines::DIRTY;
 use lines::Lines;
 use lines::U_LOG;
 use lines::UR_LOG;
 use lines::mark;
-use lines::mark_logged;
 use parts::Entry;
 use state::DONE;
-use state::Fields;
 use state::HELD;
 use state::IDLE;
-use state::Made;
+use state::Machine;
+use state::Outcome;
 use state::PLACE;
 use state::THREAD;
 use state::cut;
@@ -64,7 +62,7 @@ fn held_by_another(holders: &[u8; 64], thread: u64, word: u16) -> bool
 // How many entries a store logs first: the oldest, if another value comes to a Clean word and 16 entries wait.
 fn logs_first(states: &[u16; 64], len: usize, word: u16, same: bool) -> usize
     requires { ⌜ (word < 512) × (len ≤ 16) ⌝ }
-    ensures { λ r. ⌜ ((s : Fields) → s .lines .states ≡ now (states .entry) → s .undos .len ≡ len
+    ensures { λ r. ⌜ ((s : Machine) → s .lines .states ≡ now (states .entry) → s .undos .len ≡ len
         → word / 8 < s .words / 8
         → r ≡ storeLogs (view s) word same) ⌝ }
 {
@@ -75,11 +73,12 @@ fn logs_first(states: &[u16; 64], len: usize, word: u16, same: bool) -> usize
 }
 
 // The state after a store that replaces `entry.undo` by `entry.redo` and that logs `count` entries first.
-fn next_state(mut state: Fields, entry: Entry, count: usize) -> Fields
+fn next_state(mut state: Machine, entry: Entry, count: usize) -> Machine
     requires { ⌜ (state .undos .len ≤ 16) × ((state .redos .len ≤ 32) × (state .tail ≤ numbers)) ⌝ }
-    requires { ⌜ (entry .word < state .words) × ((state .words ≤ 512) × (state .words % 8 ≡ 0)) ⌝ }
+    requires { ⌜ (entry .thread < 8) × ((entry .word < state .words) × ((state .words ≤ 512)
+        × (state .words % 8 ≡ 0))) ⌝ }
     requires { ⌜ count ≡ storeLogs (view state) (entry .word) (eqb (entry .redo) (entry .undo)) ⌝ }
-    ensures { λ (r : Fields). ⌜ ((mem : Memory) → getD (mem .working) (entry .word) 0 ≡ entry .undo
+    ensures { λ (r : Machine). ⌜ ((mem : Memory) → getD (mem .working) (entry .word) 0 ≡ entry .undo
         → view r ≡ storeNext (view state) mem (entry .thread) (entry .word) (entry .redo) (eqb (entry .redo)
         (entry .undo))) ⌝ }
 {
@@ -93,27 +92,30 @@ fn next_state(mut state: Fields, entry: Entry, count: usize) -> Fields
     match kind {
         CLEAN => {
             let waiting = state.undos.len;
-            let words = state.undos.words;
-            mark_logged(&mut state.lines.states, &words, count);
-            push_thread(&mut state.undos.threads, waiting, count, entry.thread);
-            push_word(&mut state.undos.words, waiting, count, entry.word);
+            let keys = state.undos.keys;
+            mark_logged(&mut state.lines.states, &keys, count);
+            push_key(
+                &mut state.undos.keys,
+                waiting,
+                count,
+                key(entry.thread, entry.word),
+            );
             push_value(&mut state.undos.undos, waiting, count, entry.undo);
             push_value(&mut state.undos.redos, waiting, count, entry.redo);
             state.undos.len = waiting - count + 1;
             state.tail = state.tail + count as u64;
             mark(&mut state.lines.states, entry.word, DIRTY);
             let len = state.redos.len;
-            let old = find(&state.redos.words, len, entry.word);
+            let old = find(&state.redos.keys, len, entry.word);
             if old < len {
-                RedoBuffer::remove_threads(&mut state.redos.threads, old, 1, len);
-                RedoBuffer::remove_words(&mut state.redos.words, old, 1, len);
+                RedoBuffer::remove_keys(&mut state.redos.keys, old, 1, len);
                 RedoBuffer::remove_values(&mut state.redos.redos, old, 1, len);
                 state.redos.len = len - 1;
             }
         }
         DIRTY => {
             let len = state.undos.len;
-            let at = find(&state.undos.words, len, entry.word);
+            let at = find(&state.undos.keys, len, entry.word);
             if at < len {
                 put_value(&mut state.undos.redos, at, entry.redo);
             }
@@ -126,7 +128,7 @@ fn next_state(mut state: Fields, entry: Entry, count: usize) -> Fields
 
 // The number of an unknown thread or word, or 0.
 fn place_refusal(words: u16, thread: u64, word: u64) -> u64
-    ensures { λ r. ⌜ ((m : Machine) → m .sizes .words ≡ words → r
+    ensures { λ r. ⌜ ((m : Model) → m .sizes .words ≡ words → r
         ≡ numberOf (unknownThread thread ∷ unknownWord m word ∷ [])) ⌝ }
 {
     refuse(7 < thread, THREAD, refuse(words as u64 <= word, PLACE, 0))
@@ -135,7 +137,7 @@ fn place_refusal(words: u16, thread: u64, word: u64) -> u64
 // The number under which a store of a known thread to a known word is refused, or 0; it logs `count` records.
 fn store_refusal(idle: bool, taken: bool, count: usize, slots: u16, head: u64, tail: u64) -> u64
     requires { ⌜ (head ≤ tail) × ((tail ≤ head + slots) × ((tail ≤ numbers) × (count ≤ 1))) ⌝ }
-    ensures { λ r. ⌜ ((m : Machine) (mem : Memory) → LogOf slots head tail m
+    ensures { λ r. ⌜ ((m : Model) (mem : Memory) → LogOf slots head tail m
         → r ≡ numberOf (row idle idleNumber ∷ row taken held ∷ noRoom m mem count)) ⌝ }
 {
     refuse(
@@ -145,31 +147,9 @@ fn store_refusal(idle: bool, taken: bool, count: usize, slots: u16, head: u64, t
     )
 }
 
-// The oldest entries of the undo+redo buffer are logged.
-fn append_oldest(undos: UndoBuffer, count: usize, log: &mut [u64], tail: u64, supply: u64) -> u64
-    ensures { λ r. ⌜ Stored supply (now (log .entry)) tail
-        (undoRecordsOf count (undos .len) (undos .threads) (undos .words) (undos .undos) (undos .redos)) (now
-        (log .exit)) r ⌝ }
-{
-    append_undos(
-        log,
-        tail,
-        undos.len,
-        &undos.threads,
-        &undos.words,
-        &undos.undos,
-        &undos.redos,
-        count,
-        supply,
-    )
-}
-
-// The step, of a state that the common rows do not refuse; the lent arrays are taken out of it.
-pub(crate) fn stored<'a>(
-    state: Fields,
-    opened: &'a [bool; 8],
-    holders: &'a [u8; 64],
-    states: &'a [u16; 64],
+// The step, of a state that the common rows do not refuse.
+pub(crate) fn stored(
+    state: Machine,
     home: &[u64],
     working: &mut [u64],
     log: &mut [u64],
@@ -177,13 +157,12 @@ pub(crate) fn stored<'a>(
     thread: u64,
     word: u64,
     value: u64,
-) -> Made
-    requires { ⌜ TakenOut (now opened) (now holders) (now states) state ⌝ }
+) -> Outcome
     requires { ⌜ numberOf (commonRows (view state) (memory (now home) (now working) (now log))) ≡ 0 ⌝ }
-    ensures { λ (r : Made). ⌜ shown r (now (home .entry)) (now (working .exit)) (now (log .exit))
+    ensures { λ (r : Outcome). ⌜ shown r (now (home .entry)) (now (working .exit)) (now (log .exit))
         ≡ stepped (store thread word value) supply (view state) (memory (now (home .entry)) (now (working .entry))
         (now (log .entry))) ⌝ }
-    ensures { λ (r : Made). ⌜ HandedBack state r ⌝ }
+    ensures { λ (r : Outcome). ⌜ HandedBack state r ⌝ }
 {
     let place = place_refusal(state.words, thread, word);
     if place != 0 {
@@ -196,10 +175,13 @@ pub(crate) fn stored<'a>(
         undo: working[at],
         redo: value,
     };
-    let idle = !opened[thread as usize];
-    let taken = held_by_another(holders, thread, entry.word);
+    let opened = state.opened;
+    let holders = state.lines.holders;
+    let states = state.lines.states;
+    let idle = !is_open(&opened, thread);
+    let taken = held_by_another(&holders, thread, entry.word);
     let same = value == entry.undo;
-    let count = logs_first(states, state.undos.len, entry.word, same);
+    let count = logs_first(&states, state.undos.len, entry.word, same);
     let own = store_refusal(idle, taken, count, state.slots, state.head, state.tail);
     if own != 0 {
         return refused(own, supply, state);
@@ -207,13 +189,21 @@ pub(crate) fn stored<'a>(
     let mut left = supply;
     if count != 0 {
         let undos = state.undos;
-        left = append_oldest(undos, count, log, state.tail, supply);
+        left = append_undos(
+            log,
+            state.tail,
+            &undos.keys,
+            &undos.undos,
+            &undos.redos,
+            count,
+            supply,
+        );
     }
     if supply < 3 * count as u64 {
         return cut(working);
     }
     working[at] = value;
-    Made {
+    Outcome {
         answer: DONE,
         left: left,
         state: next_state(state, entry, count),

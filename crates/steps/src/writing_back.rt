@@ -16,8 +16,8 @@ use crate::refusals::refused;
 use lines::has_dirty;
 use lines::store_line;
 use state::DONE;
-use state::Fields;
-use state::Made;
+use state::Machine;
+use state::Outcome;
 use state::PENDING;
 use state::PLACE;
 use state::cut;
@@ -37,24 +37,23 @@ pub(crate) fn line_refusal(words: u16, states: &[u16; 64], line: u64, rest: u64)
     )
 }
 
-// The step, of a state that the common rows do not refuse; `states` are its lines' own.
+// The step, of a state that the common rows do not refuse.
 pub(crate) fn written_back(
-    mut state: Fields,
-    states: &[u16; 64],
+    mut state: Machine,
     home: &mut [u64],
     working: &mut [u64],
     log: &[u64],
     supply: u64,
     line: u64,
-) -> Made
-    requires { ⌜ now states ≡ state .lines .states ⌝ }
+) -> Outcome
     requires { ⌜ numberOf (commonRows (view state) (memory (now home) (now working) (now log))) ≡ 0 ⌝ }
-    ensures { λ (r : Made). ⌜ shown r (now (home .exit)) (now (working .exit)) (now (log .entry))
+    ensures { λ (r : Outcome). ⌜ shown r (now (home .exit)) (now (working .exit)) (now (log .entry))
         ≡ stepped (writeBack line) supply (view state) (memory (now (home .entry)) (now (working .entry)) (now
         (log .entry))) ⌝ }
-    ensures { λ (r : Made). ⌜ HandedBack state r ⌝ }
+    ensures { λ (r : Outcome). ⌜ HandedBack state r ⌝ }
 {
-    let number = line_refusal(state.words, states, line, 0);
+    let states = state.lines.states;
+    let number = line_refusal(state.words, &states, line, 0);
     if number != 0 {
         return refused(number, supply, state);
     }
@@ -66,7 +65,7 @@ pub(crate) fn written_back(
     let mut lines = state.lines;
     put_flag(&mut lines.dirty, at, false);
     state.lines = lines;
-    Made {
+    Outcome {
         answer: DONE,
         left: left,
         state: state,

@@ -42,4 +42,6 @@ returns-2 c whole =
     rw (lt-ltb (a .line) (length (a .working .now) / 8) (joined .before .if1 .left)) (refilled-so c whole)
 
 pub refill-redos-spec : {M : Type 1} → statement M
-refill-redos-spec = tie.close (tie.spec returns (λ c κs. search needs) (λ c κs. search needs) (λ c κs. let h = c .before .before .before .if1 .left in omega arith) returns-2)
+refill-redos-spec =
+    tie.close
+    (tie.spec returns (λ c κs. search needs) (λ c κs. search needs) (λ c κs. let h = c .before .before .before .if1 .left in omega arith) returns-2)

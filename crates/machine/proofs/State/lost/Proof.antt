@@ -1,4 +1,4 @@
--- `State::lost` meets its contract: the lost fields, with the state around them.
+-- `State::lost` meets its contract: the lost machine, with the state around it.
 use borrow.Author.Needs.{needs}
 use Rattle.machine.proofs.State.lost.Statement.{statement}
 use Rattle.machine.proofs.State.lost.Tie as tie

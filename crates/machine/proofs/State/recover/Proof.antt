@@ -1,7 +1,7 @@
--- `State::recover` meets its contract: that of the step, with the state around its fields.
+-- `State::recover` meets its contract: that of the step, with the state around its machine.
 use mathlib.Core.Path.{ap}
 use borrow.Author.Needs.{needs}
-use Rattle.state.specs.declared.Fields.{Fields}
+use Rattle.state.specs.declared.Machine.{Machine}
 use Rattle.machine.specs.View.{lostState}
 use Rattle.machine.proofs.Around.{around}
 use Rattle.machine.proofs.State.recover.Statement.{statement}
@@ -12,7 +12,7 @@ returns c =
     let made = c .before .before .before .before .before .before .before .recover in
     rw (c .answer .ensures) (
       made .ensures .0,
-      (around lostState (made .result) (made .ensures .1 .0), λ done. ap (λ (s : Fields). record { fields = s }) (made .ensures .1 .1 done)),
+      (around lostState (made .result) (made .ensures .1 .0), λ done. ap (λ (s : Machine). record { machine = s }) (made .ensures .1 .1 done)),
     )
 
 pub recover-spec : {M : Type 1} → statement M

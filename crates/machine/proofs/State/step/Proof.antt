@@ -1,4 +1,4 @@
--- `State::step` meets its contract: that of the step, with the state around its fields.
+-- `State::step` meets its contract: that of the step, with the state around its machine.
 use borrow.Author.Needs.{needs}
 use Rattle.machine.proofs.Around.{around-step}
 use Rattle.machine.proofs.State.step.Statement.{statement}

@@ -5,10 +5,10 @@ use Rattle.random_lists.proofs.changing.undo_keys.Statement.{statement}
 use Rattle.random_lists.proofs.changing.undo_keys.Tie as tie
 
 abbrev Inv-loop : tie.InvT-loop
-Inv-loop buffer threads₀ words₀ i₀ threads words i = 0 ≤ i
+Inv-loop buffer keys₀ i₀ keys i = 0 ≤ i
 
 abbrev μ-loop : tie.MeasureT-loop
-μ-loop buffer threads₀ words₀ i₀ threads words i = 16 - i
+μ-loop buffer keys₀ i₀ keys i = 16 - i
 
 pub undo-keys-spec : {M : Type 1} → statement M
 undo-keys-spec =
@@ -16,8 +16,6 @@ undo-keys-spec =
     (tie.spec
     Inv-loop
     μ-loop
-    (λ c. search needs)
-    (λ c. search needs)
     (λ c. search needs)
     (λ c. search needs)
     (λ c. search needs)

@@ -13,30 +13,25 @@ use Rattle.state.proofs.consistency.is_consistent.Tie as tie
 returns : tie.Need-returns
 returns c =
     let a = c .before .before .args in
-    outside-limits (a .words) (a .slots) (a .head) (a .tail) (a .opened .now) (a .holders .now) (a .states .now) (a .undos) (a .undo-threads .now)
-    (a .undo-words .now) (a .redos) (a .redo-threads .now) (a .redo-words .now)
+    outside-limits (a .n) (a .opened .now) (a .holders .now) (a .states .now) (a .undo-keys .now) (a .redo-keys .now)
     (sym (c .before .within-limits .ensures) ∙ not-true _ (c .if1 .taken))
 
 -- where the limits are kept
 module _ (c : tie.Else1) where
-  within : inLimits (c .before .before .args .words) (c .before .before .args .slots) (c .before .before .args .head)
-      (c .before .before .args .tail) (c .before .before .args .undos) (c .before .before .args .redos) ≡ true
+  within : inLimits (c .before .before .args .n) ≡ true
   within = sym (c .before .within-limits .ensures) ∙ not-false _ (c .if1 .left)
 
-  bounded : (c .before .before .args .words ≤ 512)
-      × ((c .before .before .args .words % 8 ≡ 0) × ((c .before .before .args .undos ≤ 16) × (c .before .before .args .redos ≤ 32)))
-  bounded =
-      let a = c .before .before .args in
-      limits-hold (a .words) (a .slots) (a .head) (a .tail) (a .undos) (a .redos) within
+  bounded : let n = c .before .before .args .n in (n .words ≤ 512) × ((n .words % 8 ≡ 0) × ((n .undos ≤ 16) × (n .redos ≤ 32)))
+  bounded = limits-hold (c .before .before .args .n) within
 
 returns-2 : tie.Need-returns-2
 returns-2 c =
-    let start = c .before .before .before in
+    let start = c .before .before .before .before in
     let a = start .before .before .args in
     let lines = c .before .before .lines-sound in
     ap (λ (t : Bool). lines .result && t) (c .all-wait .ensures)
-    ∙ parts-consistent (a .words) (a .slots) (a .head) (a .tail) (a .opened .now) (a .holders .now) (a .states .now) (a .undos) (a .undo-threads .now)
-    (a .undo-words .now) (a .redos) (a .redo-threads .now) (a .redo-words .now) true (lines .result) _ _ (sym (within start)) (lines .ensures) refl refl
+    ∙ parts-consistent (a .n) (a .opened .now) (a .holders .now) (a .states .now) (a .undo-keys .now) (a .redo-keys .now) true (lines .result) _ _
+    (sym (within start)) (lines .ensures) refl refl
 
 pub is-consistent-spec : {M : Type 1} → statement M
 is-consistent-spec =
@@ -45,6 +40,6 @@ is-consistent-spec =
     (λ c κs. search needs)
     returns
     (λ c. search needs)
-    (λ c κs. omega (arith, bounded c))
-    (λ c κs. bounded (c .before .before))
+    (λ c κs. omega (arith, bounded (c .before)))
+    (λ c κs. bounded (c .before .before .before))
     returns-2)

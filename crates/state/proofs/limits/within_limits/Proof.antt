@@ -8,11 +8,13 @@ use Rattle.state.proofs.limits.within_limits.Tie as tie
 
 returns : tie.Need-returns
 unfolding inLimits
-returns c = rw (lt-leb (c .before .args .head) numbers (c .if1 .taken))
+returns c = rw (lt-leb (c .before .before .args .n .head) numbers (c .if1 .taken))
 
 returns-2 : tie.Need-returns-2
 unfolding inLimits
-returns-2 c = rw (le-leb (c .before .args .head) numbers (c .if1 .left))
+returns-2 c =
+    let passed = c .before .before .before .before .before .before .before .before .before .before .before .before in
+    rw (le-leb (passed .before .before .args .n .head) numbers (passed .if1 .left))
 
 pub within-limits-spec : {M : Type 1} → statement M
-within-limits-spec = tie.close (tie.spec returns (λ c. search needs) returns-2)
+within-limits-spec = tie.close (tie.spec returns (λ c. search needs) (λ c. search needs) returns-2)

@@ -22,8 +22,8 @@ returns c =
     let redos = c .redos-wait in
     let lines : List Line = linesLent (a .words / 8) (a .holders .now) (a .t3) in
     let size : length lines ≡ a .words / 8 = length-listed (a .words / 8) _ in
-    let es = entriesLent (a .redos) (a .redo-threads .now) (a .redo-words .now) in
-    redos-after (a .words) (entriesLent (a .undos) (a .undo-threads .now) (a .undo-words .now)) es lines (undos .result) (redos .result) (omega arith)
+    let es = entriesLent (a .redos) (a .redo-keys .now) in
+    redos-after (a .words) (entriesLent (a .undos) (a .undo-keys .now)) es lines (undos .result) (redos .result) (omega arith)
     (undos .ensures .0) (λ passed. redos .ensures ∙ ap (λ (ls : List Line). redosWait (a .words) ls es) (undos .ensures .1 .1 passed))
 
 pub all-wait-spec : {M : Type 1} → statement M

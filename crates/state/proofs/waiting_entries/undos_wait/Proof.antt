@@ -8,10 +8,10 @@ use Rattle.state.proofs.waiting_entries.undos_wait.Tie as tie
 
 returns : tie.Need-returns
 returns c =
-    let a = c .before .before .before .before .before .before .args in
+    let a = c .before .before .before .before .before .args in
     let each = c .before .before .each-waits in
     let without = c .none-dirty in (
-      undos-walked (a .words) (a .holders .now) (a .states .now) (entriesLent (a .count) (a .threads .now) (a .targets .now)) (each .last .1 .1 .0)
+      undos-walked (a .words) (a .holders .now) (a .states .now) (entriesLent (a .count) (a .keys .now)) (each .last .1 .1 .0)
           (each .result) (without .result) (each .ensures) (without .ensures (a .holders .now)),
       (each .ensures .size, λ passed. each .ensures .lines (both-left (each .result) (without .result) passed)),
     )

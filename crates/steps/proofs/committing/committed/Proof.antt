@@ -1,104 +1,100 @@
 -- `committing::committed` meets its contract: refused by a row of its own, cut, or done.
-use Prim.Native.Nat.{_%_}
-use mathlib.Core.Path.{_≡_, refl, sym, _∙_, ap}
-use mathlib.Core.Bool.{Bool, false}
-use mathlib.Core.List.{List}
+use Prim.Native.Nat.{_≤_}
+use mathlib.Core.Path.{_≡_, refl, sym, _∙_}
 use native.Mathlib.Omega.{arith}
 use borrow.Author.Needs.{needs}
-use lib.ListN.{length, getD}
+use lib.ListN.{length}
+use Rattle.model.specs.Machine.{Memory}
 use Rattle.model.specs.Refusals.{numberOf}
 use Rattle.model.specs.Steps.{commitRecords, commitRows}
 use Rattle.model.specs.Step.{commit}
 use Rattle.state.specs.View.{view, memory}
 use Rattle.steps.specs.Committing.{Allowed}
 use Rattle.steps.proofs.Outcome.{refused-way}
-use Rattle.steps.proofs.Commits.{Sizes, sizes, known-thread, commit-appends}
+use Rattle.steps.proofs.Commits.{Sizes, sizes, known-thread, commit-appends, commit-size}
 use Rattle.steps.proofs.committing.committed.Statement.{statement}
 use Rattle.steps.proofs.committing.committed.Tie as tie
 
+-- where the commit began, and the buffers that it is lent
+abbrev start : tie.After-count-records → tie.Start
+start c = c .before .before .before .before .before
+
+abbrev lent : tie.Start → Memory
+lent c = memory (c .args .home .now) (c .args .working .now) (c .args .log .now)
+
 -- no common row applies
 size : (c : tie.Start) → Sizes (c .args .state)
-size c =
-    let a = c .args in
-    sizes (a .state) (memory (a .home .now) (a .working .now) (a .log .now)) (c .pre .1)
+size c = sizes (c .args .state) (lent c) (c .pre .1)
 
 -- how many records there are
-counted : (c : tie.After-count-records)
-    → let a = c .before .before .before .before .args in
-    c .count-records .result ≡ length (commitRecords (view (a .state)) (memory (a .home .now) (a .working .now) (a .log .now)) (a .thread))
+counted : (c : tie.After-count-records) → let s = start c in
+    c .count-records .result ≡ length (commitRecords (view (s .args .state)) (lent s) (s .args .thread))
 counted c =
-    let start = c .before .before .before .before in
-    let a = start .args in
-    let out = start .pre .0 in
-    c .count-records .ensures .0 (a .state)
+    let out = start c .pre .0 in
+    c .count-records .ensures .0 (start c .args .state)
     (record { undos = refl; redos = refl; words = refl; holders = sym (out .isHolders); states = sym (out .isStates) })
-    (memory (a .home .now) (a .working .now) (a .log .now))
+    (lent (start c))
+
+-- the number of the rows after the common ones
+later : (c : tie.After-commit-refusal) → let s = start (c .before .before .before) in
+    c .commit-refusal .result ≡ numberOf (commitRows (view (s .args .state)) (lent s) (s .args .thread))
+later c =
+    let s = start (c .before .before .before) in
+    c .commit-refusal .ensures (view (s .args .state)) (lent s) (sym (c .before .is-open .ensures)) (record { slots = refl; head = refl; tail = refl })
+    (counted (c .before .before .before))
 
 count-records-requires : tie.Need-count-records-requires
 count-records-requires c κs =
-    let z = size (c .before .before .before) in
+    let z = size (c .before .before .before .before) in
     (omega arith, (omega arith, (omega arith, omega arith)))
 
 commit-refusal-requires : tie.Need-commit-refusal-requires
 commit-refusal-requires c κs =
-    let z = size (c .before .before .before .before .before) in
-    let n = c .before .count-records .ensures .1 in
+    let z = size (start (c .before .before)) in
+    let n = c .before .before .count-records .ensures .1 in
     (omega arith, (omega arith, (omega arith, omega arith)))
-
--- the number of the rows after the common ones
-later : (c : tie.After-commit-refusal)
-    → let a = c .before .before .before .before .before .before .args in
-    c .commit-refusal .result ≡ numberOf (commitRows (view (a .state)) (memory (a .home .now) (a .working .now) (a .log .now)) (a .thread))
-later c =
-    let start = c .before .before .before .before .before .before in
-    let a = start .args in
-    let mem = memory (a .home .now) (a .working .now) (a .log .now) in
-    c .commit-refusal .ensures (view (a .state)) mem (ap (λ (os : List Bool). getD os (a .thread % 8) false) (sym (start .pre .0 .isOpened)))
-    (record { slots = refl; head = refl; tail = refl }) (counted (c .before .before))
 
 returns : tie.Need-returns
 returns c =
     let refusal = c .before .before in
-    let start = refusal .before .before .before .before .before .before in
-    let a = start .args in
-    refused-way (commit (a .thread)) (a .supply) (a .state) (memory (a .home .now) (a .working .now) (a .log .now)) (start .pre .1)
-    (refusal .commit-refusal .result) (later refusal) (c .before .if1 .taken) refl
+    let s = start (refusal .before .before .before) in
+    let a = s .args in
+    refused-way (commit (a .thread)) (a .supply) (a .state) (lent s) (s .pre .1) (refusal .commit-refusal .result) (later refusal) (c .before .if1 .taken) refl
     (c .refused .result) (c .refused .ensures)
 
 -- no row applies
-allowed : (c : tie.Else1)
-    → let a = c .before .before .before .before .before .before .before .args in
-    Allowed (a .thread) (c .before .before .before .count-records .result) (view (a .state)) (memory (a .home .now) (a .working .now) (a .log .now))
+allowed : (c : tie.Else1) → let s = start (c .before .before .before .before) in
+    Allowed (s .args .thread) (c .before .before .before .before .count-records .result) (view (s .args .state)) (lent s)
 allowed c =
     record {
-      common = c .before .before .before .before .before .before .before .pre .1;
+      common = start (c .before .before .before .before) .pre .1;
       own = sym (later (c .before)) ∙ c .if1 .left;
-      records = counted (c .before .before .before);
+      records = counted (c .before .before .before .before);
     }
 
 carry-out-requires : tie.Need-carry-out-requires
 carry-out-requires c κs =
     let passed = c .before .before in
-    let start = passed .before .before .before .before .before .before .before in
-    let a = start .args in
-    let y = size start in
-    let count = passed .before .before .before .count-records .result in
+    let s = start (passed .before .before .before .before) in
+    let a = s .args in
+    let y = size s in
+    let count = passed .before .before .before .before .count-records .result in
     let thread = known-thread (a .state) (a .thread) (a .home .now) (a .working .now) (a .log .now) count (allowed passed) in
     let room = commit-appends (a .state) (a .thread) (a .home .now) (a .working .now) (a .log .now) count (allowed passed) .room in
-    (thread, (y .words, (y .undos, omega (arith, room .numbered (y .tail), allowed passed .records))))
+    let some : 1 ≤ count = omega (arith, allowed passed .records, commit-size (view (a .state)) (lent s) (a .thread)) in
+    (thread, (y .words, (y .undos, (y .redos, (some, omega (arith, room .numbered (y .tail), allowed passed .records))))))
 
 returns-2 : tie.Need-returns-2
 returns-2 c =
     let passed = c .before .before .before .before .before .before .before in
-    let a = passed .before .before .before .before .before .before .before .args in
-    c .before .before .before .before .carry-out .ensures (a .home .now) (allowed passed)
+    c .before .before .before .before .carry-out .ensures (start (passed .before .before .before .before) .args .home .now) (allowed passed)
 
 pub committed-spec : {M : Type 1} → statement M
 committed-spec =
     tie.close
     (tie.spec
     count-records-requires
-    (λ c. search needs)
+    (λ c κs. search needs)
     commit-refusal-requires
     (λ c κs. search needs)
     returns

@@ -7,7 +7,7 @@ use Rattle.model.specs.Machine.{Memory}
 use Rattle.model.specs.Refusals.{numberOf}
 use Rattle.model.specs.Steps.{deleteRows, verdictRows}
 use Rattle.model.specs.Step.{deleteOldest}
-use Rattle.state.specs.declared.Fields.{Fields}
+use Rattle.state.specs.declared.Machine.{Machine}
 use Rattle.state.specs.View.{view, memory}
 use Rattle.steps.proofs.Outcome.{common-fit, refused-way}
 use Rattle.steps.proofs.DeleteStep.{headMoved, delete-cut, delete-done}
@@ -19,7 +19,7 @@ abbrev start : tie.After-refusal → tie.Start
 start c = c .before .before .before .before .before .before .before .before
 
 -- the state and the buffers
-abbrev taken : tie.Start → Fields
+abbrev taken : tie.Start → Machine
 taken s = s .args .state
 
 abbrev lent : tie.Start → Memory

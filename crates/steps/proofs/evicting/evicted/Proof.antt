@@ -17,7 +17,7 @@ use Rattle.steps.proofs.Outcome.{common-fit, refused-way}
 use Rattle.steps.proofs.Appending.{appended-of, append-cut}
 use Rattle.steps.proofs.LineRows.{LineFit}
 use Rattle.steps.proofs.LoggingOldest.{WholeRedos}
-use Rattle.steps.proofs.Eviction.{few-wait, lacking-by, entries-added, entries-none, evict-number, evict-fit}
+use Rattle.steps.proofs.Eviction.{few-wait, held-thread, lacking-by, entries-added, entries-none, evict-number, evict-fit}
 use Rattle.steps.proofs.Eviction.{evict-size, evict-appends, evict-done}
 use borrow.Author.Needs.{needs}
 use Rattle.steps.proofs.evicting.evicted.Statement.{statement}
@@ -101,7 +101,7 @@ returns c =
 
 -- where the records were appended, and before
 abbrev unrefused : tie.After-append-redos → tie.Else1
-unrefused c = c .before .before .before .before .before .before
+unrefused c = c .before .before .before .before .before
 
 mul-if2 : tie.Need-mul-if2
 mul-if2 c =
@@ -120,7 +120,8 @@ returns-2 c =
     let log = logged .append-redos in
     append-cut (evict-appends (a .line) (a .t1) (lent s) (s .pre) (none e)) (a .supply) (count .result) (ended .cut .result) (ended .cut .last .0)
     (log .last .0) (log .result) (evict-size (a .line) (a .t1) (lent s) (count .result) (lacks e) (count .ensures .0)) (ended .before .before .if2 .taken)
-    (appended-of (λ k. redoRecords k (view (a .t1))) (count .result) _ (lacks e) (redos-appended (count .result) (a .t1 .redos) (few s) (log .ensures)))
+    (appended-of (λ k. redoRecords k (view (a .t1))) (count .result) _ (lacks e)
+    (redos-appended (count .result) (a .t1 .redos) (count .ensures .0) (few s) (log .ensures)))
     (ended .cut .ensures .0) (ended .cut .ensures .1)
 
 -- where the line's states are read, and before
@@ -131,21 +132,21 @@ abbrev unread : tie.After-states-at-arg → tie.Else1
 unread c = unrefused (logged c)
 
 sub-state : tie.Need-sub-state
-sub-state c = taken (unread (c .before .before .before .before .before .before .before .before .before .before .before .before)) .lacking .ensures .0
+sub-state c = taken (unread (c .before .before .before .before .before .before .before .before .before .before)) .lacking .ensures .0
 
 add-state : tie.Need-add-state
 add-state c =
-    let h = few (began (unread (c .before .before .before .before .before .before .before .before .before .before .before .before .before))) in
+    let h = few (began (unread (c .before .before .before .before .before .before .before .before .before .before .before))) in
     omega (arith, c .count-ulog .ensures .0)
 
 put-states-requires : tie.Need-put-states-requires
 put-states-requires c κs =
     let counted = c .before .before in
-    place (unread (counted .before .before .before .before .before .before .before .before .before .before .before .before .before))
+    place (unread (counted .before .before .before .before .before .before .before .before .before .before .before))
 
 -- the tail is as it was
 same-tail : (c : tie.Joined3) → c .if3 .state .tail ≡ began (unread (c .before .before)) .args .t1 .tail
-same-tail c = ⊎-elim (λ w. rw (w .15)) (λ w. rw (w .1)) (c .if3 .came)
+same-tail c = ⊎-elim (λ w. rw (w .13)) (λ w. rw (w .1)) (c .if3 .came)
 
 add-state-2 : tie.Need-add-state-2
 add-state-2 c =
@@ -168,28 +169,20 @@ returns-3 c =
     let states = read .states-at .ensures in
     let done =
     evict-done (a .line) (a .t1) (lent s) (s .pre) (none e) (a .supply) (count .result) (lacks e) (count .ensures .0) (log .last .0) (log .result)
-    (redos-appended (count .result) (a .t1 .redos) (few s) (log .ensures)) (read .before .before .before .if2 .left) (whole-lines s) in
+    (redos-appended (count .result) (a .t1 .redos) (count .ensures .0) (few s) (log .ensures)) (read .before .before .before .if2 .left) (whole-lines s) in
     ⊎-elim
     (λ w.
-    let keys = whole-redos s in
+    let whole = whole-redos s in
     let holder = w .3 .ensures in
-    let threads = w .5 .ensures (keys .threads) in
-    let words = w .7 .ensures (keys .words) in
-    let redos = w .10 .ensures (keys .redos) in
-    let added = w .11 .ensures .1 in
-    rw (w .15)
-    (done
-    (record {
-      redos = w .10 .last .0;
-      len = a .t1 .redos .len - count .result + w .11 .result;
-      threads = w .5 .last .0;
-      words = w .7 .last .0;
-    })
-    (w .14 .last .0)
-    (entries-added (a .t1) (a .line) (f .below) (lent s) (count .result) (lacks e) (count .ensures .0) (w .11 .result) (w .5 .last .0) (w .7 .last .0)
-    (w .10 .last .0) (f .narrow) (f .fits .working) (few s) keys (rw states at added) (rw (holder, states) at threads) (rw states at words)
-    (rw states at redos))
-    (w .14 .ensures)))
+    let keys = w .5 .ensures (whole .keys) in
+    let redos = w .8 .ensures (whole .redos) in
+    let added = w .9 .ensures .1 in
+    let held = held-thread (a .t1) (a .line) (f .fits .clauses) (f .below) (λ clean. w .0 .taken (states ∙ clean)) in
+    rw (w .13)
+    (done (record { redos = w .8 .last .0; len = a .t1 .redos .len - count .result + w .9 .result; keys = w .5 .last .0 }) (w .12 .last .0)
+    (entries-added (a .t1) (a .line) (f .below) (lent s) (count .result) (lacks e) (count .ensures .0) (w .9 .result) (w .5 .last .0) (w .8 .last .0)
+    (f .narrow) (f .fits .working) (few s) whole (rw states at added) (omega arith) (rw (holder, states) at keys) (rw states at redos))
+    (w .12 .ensures)))
     (λ w.
     let all = a .t1 .lines .states in
     let left = w .0 .left in
@@ -217,7 +210,6 @@ evicted-spec =
     returns-2
     (λ c κs. place (unread c))
     (λ c κs. place (unread (c .before .before .before .before)))
-    (λ c κs. search needs)
     (λ c κs. search needs)
     (λ c κs. search needs)
     sub-state

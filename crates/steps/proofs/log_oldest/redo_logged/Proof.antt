@@ -14,7 +14,7 @@ use Rattle.model.specs.Refusals.{numberOf}
 use Rattle.model.specs.Steps.{redoRecord, redosLogged, oldestRows}
 use Rattle.model.specs.Step.{logRedo}
 use Rattle.buffers.proofs.Guards.{redos-appended}
-use Rattle.state.specs.declared.Fields.{Fields}
+use Rattle.state.specs.declared.Machine.{Machine}
 use Rattle.state.specs.View.{view, memory}
 use Rattle.steps.proofs.Outcome.{refused-way}
 use Rattle.steps.proofs.Appending.{AppendWay, append-done, append-cut}
@@ -23,7 +23,7 @@ use Rattle.steps.proofs.log_oldest.redo_logged.Statement.{statement}
 use Rattle.steps.proofs.log_oldest.redo_logged.Tie as tie
 
 -- the record that it logs, or none
-abbrev records : Fields → List Record
+abbrev records : Machine → List Record
 records s = oldest redoRecord (s .redos .len) (redoAt (s .redos))
 
 -- where the step began, with the lent buffers, and where it was not refused
@@ -34,7 +34,7 @@ abbrev lent : tie.Start → Memory
 lent c = memory (c .args .home .now) (c .args .working .now) (c .args .log .now)
 
 abbrev passed : tie.After-append-redos → tie.Else1
-passed c = c .before .before .before .before .before .before
+passed c = c .before .before .before .before .before
 
 -- the arrays of the buffer have their places
 whole-redos : (c : tie.Start) → WholeRedos (c .args .t1 .redos)
@@ -87,38 +87,38 @@ returns-2 c =
     let e = appended .append-redos in
     let k = passed-known begun in
     append-cut (appends begun) (s .args .supply) 1 (ended .cut .result) (ended .cut .last .0) (e .last .0) (e .result) (k .one)
-    (ended .before .before .if2 .taken) (redos-appended 1 (s .args .t1 .redos) (k .short) (e .ensures)) (ended .cut .ensures .0) (ended .cut .ensures .1)
+    (ended .before .before .if2 .taken) (redos-appended 1 (s .args .t1 .redos) (k .some) (k .short) (e .ensures))
+    (ended .cut .ensures .0) (ended .cut .ensures .1)
 
 sub-state : tie.Need-sub-state
 sub-state c =
-    let k = passed-known (passed (c .before .before .before .before .before .before .before .before .before)) in
+    let k = passed-known (passed (c .before .before .before .before .before .before .before)) in
     omega (arith, k .some)
 
 add-state : tie.Need-add-state
 add-state c =
-    let k = passed-known (passed (c .before .before .before .before .before .before .before .before .before .before)) in
+    let k = passed-known (passed (c .before .before .before .before .before .before .before .before)) in
     omega (arith, k .fits .clauses .tail)
 
 returns-3 : tie.Need-returns-3
 returns-3 c =
-    let threads = c .before .before .before .before .before .remove-threads in
-    let words = c .before .before .before .remove-words in
     let values = c .before .remove-values in
-    let taken = c .before .before .before .before .before .before .before in
+    let keys = c .before .before .before .remove-keys in
+    let taken = c .before .before .before .before .before in
     let appended = taken .before .before .before in
     let begun = passed appended in
     let a = start (begun .before) .args in
     let s = a .t1 in
     let e = appended .append-redos in
     let k = passed-known begun in
-    let left : RedoBuffer = record { redos = values .last .0; len = s .redos .len - 1; threads = threads .last .0; words = words .last .0 } in
+    let left : RedoBuffer = record { redos = values .last .0; len = s .redos .len - 1; keys = keys .last .0 } in
     let rest : redosWaiting left ≡ drop 1 (redosWaiting (s .redos)) =
-    redos-rest 1 (threads .last .0) (words .last .0) (values .last .0) (s .redos) (whole-redos (start (begun .before))) (k .some) (k .short)
-    (threads .ensures) (words .ensures) (values .ensures) in
+    redos-rest 1 (keys .last .0) (values .last .0) (s .redos) (whole-redos (start (begun .before))) (k .some) (k .short)
+    (keys .ensures) (values .ensures) in
     let next = withLogged s 1 (s .lines) (s .undos) left in
     let same : view next ≡ redosLogged 1 (view s) = rw (rest, k .one) in
     append-done (appends begun) (a .supply) 1 (record { answer = 0; left = e .result; state = next }) (e .last .0) (k .one) (taken .if2 .left)
-    (redos-appended 1 (s .redos) (k .short) (e .ensures)) refl same
+    (redos-appended 1 (s .redos) (k .some) (k .short) (e .ensures)) refl same
 
 pub redo-logged-spec : {M : Type 1} → statement M
 redo-logged-spec =
@@ -132,7 +132,6 @@ redo-logged-spec =
     (λ c. search needs)
     (λ c. search needs)
     returns-2
-    (λ c κs. search needs)
     (λ c κs. search needs)
     (λ c κs. search needs)
     sub-state

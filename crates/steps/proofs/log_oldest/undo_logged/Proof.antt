@@ -15,7 +15,7 @@ use Rattle.model.specs.Refusals.{numberOf}
 use Rattle.model.specs.Steps.{undoRedoRecord, undosLogged, oldestRows}
 use Rattle.model.specs.Step.{logUndo}
 use Rattle.buffers.proofs.Guards.{undos-appended}
-use Rattle.state.specs.declared.Fields.{Fields}
+use Rattle.state.specs.declared.Machine.{Machine}
 use Rattle.state.specs.View.{view, memory}
 use Rattle.steps.proofs.Outcome.{refused-way}
 use Rattle.steps.proofs.Appending.{AppendWay, append-done, append-cut}
@@ -24,7 +24,7 @@ use Rattle.steps.proofs.log_oldest.undo_logged.Statement.{statement}
 use Rattle.steps.proofs.log_oldest.undo_logged.Tie as tie
 
 -- the record that it logs, or none
-abbrev records : Fields → List Record
+abbrev records : Machine → List Record
 records s = oldest undoRedoRecord (s .undos .len) (undoAt (s .undos))
 
 -- where the step began, with the lent buffers, and where it was not refused
@@ -35,7 +35,7 @@ abbrev lent : tie.Start → Memory
 lent c = memory (c .args .home .now) (c .args .working .now) (c .args .log .now)
 
 abbrev passed : tie.After-append-undos → tie.Else1
-passed c = c .before .before .before .before .before .before .before
+passed c = c .before .before .before .before .before .before
 
 -- the arrays of the state have their places
 whole-lines : (c : tie.Start) → WholeLines (c .args .t1 .lines)
@@ -91,17 +91,18 @@ returns-2 c =
     let e = appended .append-undos in
     let k = passed-known begun in
     append-cut (appends begun) (s .args .supply) 1 (ended .cut .result) (ended .cut .last .0) (e .last .0) (e .result) (k .one)
-    (ended .before .before .if2 .taken) (undos-appended 1 (s .args .t1 .undos) (k .short) (e .ensures)) (ended .cut .ensures .0) (ended .cut .ensures .1)
+    (ended .before .before .if2 .taken) (undos-appended 1 (s .args .t1 .undos) (k .some) (k .short) (e .ensures))
+    (ended .cut .ensures .0) (ended .cut .ensures .1)
 
 sub-state : tie.Need-sub-state
 sub-state c =
-    let taken = c .before .before .before .before .before .before .before .before .before .before .before .before in
+    let taken = c .before .before .before .before .before .before .before .before .before .before in
     let k = passed-known (passed (taken .before .before .before)) in
     omega (arith, k .some)
 
 add-state : tie.Need-add-state
 add-state c =
-    let taken = c .before .before .before .before .before .before .before .before .before .before .before .before .before in
+    let taken = c .before .before .before .before .before .before .before .before .before .before .before in
     let k = passed-known (passed (taken .before .before .before)) in
     omega (arith, k .fits .clauses .tail)
 
@@ -109,10 +110,9 @@ returns-3 : tie.Need-returns-3
 returns-3 c =
     let redos = c .before .remove-values2 in
     let undos = c .before .before .before .remove-values in
-    let words = c .before .before .before .before .before .remove-words in
-    let threads = c .before .before .before .before .before .before .before .remove-threads in
-    let marked = c .before .before .before .before .before .before .before .before .before .mark-logged in
-    let taken = c .before .before .before .before .before .before .before .before .before .before .before .before .before in
+    let keys = c .before .before .before .before .before .remove-keys in
+    let marked = c .before .before .before .before .before .before .before .mark-logged in
+    let taken = c .before .before .before .before .before .before .before .before .before .before .before in
     let appended = taken .before .before .before in
     let begun = passed appended in
     let b = start (begun .before) in
@@ -124,18 +124,17 @@ returns-3 c =
       undos = undos .last .0;
       redos = redos .last .0;
       len = s .undos .len - 1;
-      threads = threads .last .0;
-      words = words .last .0;
+      keys = keys .last .0;
     } in
     let rest : undosWaiting left ≡ drop 1 (undosWaiting (s .undos)) =
-    undos-rest 1 (threads .last .0) (words .last .0) (redos .last .0) (s .undos) (undos .last .0) (whole-undos b) (k .some) (k .short)
-    (threads .ensures) (words .ensures) (undos .ensures) (redos .ensures) in
-    let places = whole-undos b .keys .words in
+    undos-rest 1 (keys .last .0) (redos .last .0) (s .undos) (undos .last .0) (whole-undos b) (k .some) (k .short)
+    (keys .ensures) (undos .ensures) (redos .ensures) in
+    let places = whole-undos b .both .keys in
     let next = undosGone s 1 (marked .last .0) left in
     let same : view next ≡ undosLogged 1 (view s) =
     undos-gone s 1 (marked .last .0) left (whole-lines b) places (k .some) (k .short) (k .narrow) (marked .ensures (whole-lines b .states) places) rest in
     append-done (appends begun) (a .supply) 1 (record { answer = 0; left = e .result; state = next }) (e .last .0) (k .one) (taken .if2 .left)
-    (undos-appended 1 (s .undos) (k .short) (e .ensures)) refl same
+    (undos-appended 1 (s .undos) (k .some) (k .short) (e .ensures)) refl same
 
 pub undo-logged-spec : {M : Type 1} → statement M
 undo-logged-spec =
@@ -149,7 +148,6 @@ undo-logged-spec =
     (λ c. search needs)
     (λ c. search needs)
     returns-2
-    (λ c κs. search needs)
     (λ c κs. search needs)
     (λ c κs. search needs)
     (λ c κs. search needs)

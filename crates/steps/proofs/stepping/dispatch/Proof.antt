@@ -4,7 +4,6 @@ use borrow.Author.Needs.{needs}
 use Rattle.model.specs.Refusals.{numberOf}
 use Rattle.state.specs.View.{view, memory}
 use Rattle.model.specs.Step.{Step, firstRows}
-use Rattle.steps.specs.Steps.{TakenOut}
 use Rattle.recovery.proofs.RecoverStep.{recover-any}
 use Rattle.steps.proofs.stepping.dispatch.Statement.{statement}
 use Rattle.steps.proofs.stepping.dispatch.Tie as tie
@@ -17,25 +16,6 @@ passed c s e =
     let a = c .before .before .before .args in
     subst (λ (x : Step). numberOf (firstRows x (view (a .state)) (memory (a .home .now) (a .working .now) (a .log .now))) ≡ 0) e
     (c .before .before .before .pre .1)
-
--- the lent arrays are those of the state
-own : (c : tie.After-slice-known3) → let a = c .before .before .before .args in TakenOut (a .opened .now) (a .holders .now) (a .states .now) (a .state)
-own c = c .before .before .before .pre .0
-
-stored-requires : tie.Need-stored-requires
-stored-requires c κs =
-    let d = c .before .before .before .before in
-    (own (d .before .before), passed (d .before .before) _ (d .step2 .given .1))
-
-written-back-requires : tie.Need-written-back-requires
-written-back-requires c κs =
-    let d = c .before .before .before .before in
-    (own (d .before .before) .isStates, passed (d .before .before) _ (d .step4 .given .1))
-
-committed-requires : tie.Need-committed-requires
-committed-requires c κs =
-    let d = c .before .before .before .before in
-    (own (d .before .before), passed (d .before .before) _ (d .step5 .given .1))
 
 returns : tie.Need-returns
 returns c = rw (c .before .before .step .given .1) (c .begun .ensures .0 _, c .begun .ensures .1)
@@ -68,7 +48,7 @@ dispatch-spec =
     (λ c. search needs)
     (λ c κs. passed (c .before .before .before) _ (c .before .step .given .1))
     (λ c. search needs)
-    stored-requires
+    (λ c κs. passed (c .before .before .before .before .before .before) _ (c .before .before .before .before .step2 .given .1))
     (λ c. search needs)
     (λ c κs. passed (c .before .before .before .before .before) _ (c .before .before .before .enum-told .given .1))
     (λ c. search needs)
@@ -76,9 +56,9 @@ dispatch-spec =
     (λ c. search needs)
     (λ c κs. passed (c .before .before .before .before .before .before) _ (c .before .before .before .before .step3 .given .1))
     (λ c. search needs)
-    written-back-requires
+    (λ c κs. passed (c .before .before .before .before .before .before) _ (c .before .before .before .before .step4 .given .1))
     (λ c. search needs)
-    committed-requires
+    (λ c κs. let d = c .before .before .before .before in (d .before .before .before .before .before .pre .0, passed (d .before .before) _ (d .step5 .given .1)))
     (λ c. search needs)
     (λ c κs. passed (c .before .before .before .before .before) _ (c .before .before .before .enum-told3 .given .1))
     (λ c. search needs)

@@ -15,12 +15,12 @@ use Rattle.steps.proofs.stepping.perform.Tie as tie
 
 -- where the step began, before the state was tested
 abbrev start : tie.Joined1 → tie.Start
-start c = c .before .before .before .before .before .before .before .before .before .before .before .before
+start c = c .before .before .before .before .before .before .before .before .before .before
 
 -- a state that the step takes is consistent, or it isn't
 sound : (c : tie.Joined1) → takesState (start c .args .step) ≡ true → c .if1 .sound ≡ consistent (view (start c .args .state))
 sound c takes =
-    ⊎-elim (λ w. w .9 ∙ w .8 .ensures ∙ sound-here (start c .args .state))
+    ⊎-elim (λ w. w .7 ∙ w .6 .ensures ∙ sound-here (start c .args .state))
     (λ w. absurd (false≢true (sym (w .0 .left) ∙ c .before .takes-state .ensures ∙ takes))) (c .if1 .came)
 
 -- the number of the rows before the step's own
@@ -41,11 +41,6 @@ returns c =
     first-way (a .step) (a .supply) (a .state) (lent d) (d .first-refusal .result) (number d) (c .before .if2 .taken) (c .refused .result)
     (c .refused .ensures)
 
-dispatch-requires : tie.Need-dispatch-requires
-dispatch-requires c κs =
-    let e = c .before .before .before .before .before .before in
-    (record { isOpened = refl; isHolders = refl; isStates = refl }, sym (number (e .before)) ∙ e .if2 .left)
-
 pub perform-spec : {M : Type 1} → statement M
 perform-spec =
     tie.close
@@ -58,7 +53,7 @@ perform-spec =
     (λ c. search needs)
     (λ c. search needs)
     returns
-    dispatch-requires
+    (λ c κs. let passed = c .before .before .before .before .before in (record { isHolders = refl; isStates = refl }, sym (number (passed .before)) ∙ passed .if2 .left))
     (λ c. search needs)
     (λ c. search needs)
     (λ c. search needs)

@@ -6,14 +6,14 @@ use lib.ListN.{length}
 use borrow.Author.Needs.{needs}
 use Rattle.buffers.specs.Waiting.{undosWaiting}
 use Rattle.model.specs.Machine.{stateIn}
-use Rattle.state.specs.declared.Fields.{Fields}
+use Rattle.state.specs.declared.Machine.{Machine}
 use Rattle.state.specs.View.{view}
 use Rattle.steps.proofs.StoreParts.{logs-clean, logs-other, undos-length}
 use Rattle.steps.proofs.storing.logs_first.Statement.{statement}
 use Rattle.steps.proofs.storing.logs_first.Tie as tie
 
 -- the state of the word, and how many entries wait
-module _ (c : tie.After-state-of) (s : Fields) (states : s .lines .states ≡ c .before .args .states .now) (len : s .undos .len ≡ c .before .args .len)
+module _ (c : tie.After-state-of) (s : Machine) (states : s .lines .states ≡ c .before .args .states .now) (len : s .undos .len ≡ c .before .args .len)
     (below : c .before .args .word / 8 < s .words / 8) where
   kind : c .state-of .result ≡ stateIn (view s .lines) (c .before .args .word)
   kind = c .state-of .ensures (s .lines) states (s .words / 8) below

@@ -2,12 +2,12 @@
 use borrow.Author.Needs.{needs}
 use borrow.Author.Tests.{eq-eqb, ne-eqb}
 use Prim.Native.Nat.{ℕ, _+_, _-_, _/_, _≤_, _<_}
-use mathlib.Core.Path.{_≡_, refl, sym, _∙_}
+use mathlib.Core.Path.{_≡_, refl, sym, ap, _∙_}
 use mathlib.Core.Bool.{true, false}
 use mathlib.Core.List.{List, []}
 use native.Mathlib.Omega.{arith}
 use lib.Dec.{eqb}
-use lib.ListN.{getD}
+use lib.ListN.{getD, set, take}
 use Rattle.buffers.specs.declared.UndoBuffer.{UndoBuffer}
 use Rattle.parts.specs.declared.Entry.{Entry}
 use Rattle.lines.specs.declared.Lines.{Lines}
@@ -21,9 +21,10 @@ use Rattle.buffers.proofs.Removed.{undos-dropped, whole-closed}
 use Rattle.buffers.proofs.Places.{discarded-none, amended-at, amended-none}
 use Rattle.model.specs.Machine.{Memory, changed, heldBy, dirtyAs, stateIn, withLines, withUndoRedo, withRedo}
 use Rattle.model.specs.Steps.{undosLogged, storeNext}
-use Rattle.state.specs.declared.Fields.{Fields}
+use Rattle.state.specs.declared.Machine.{Machine}
 use Rattle.state.specs.View.{view}
-use Rattle.lines.proofs.WordStates.{withStates, first-marked, whole-marked}
+use Rattle.lines.proofs.WordStates.{withStates, first-marked}
+use Rattle.buffers.proofs.LoggedLines.{whole-logged}
 use Rattle.steps.proofs.LoggingOldest.{WholeUndos, WholeRedos, undosGone, undos-gone}
 use Rattle.steps.proofs.StoreParts.{logs-most, logs-other, none-logged, logs-room, undos-length, next-same, next-other}
 use Rattle.steps.proofs.StoreParts.{held-lines, dirty-lines, whole-dirty, place-found, redos-kept, WholeState}
@@ -57,7 +58,7 @@ module _ (c : tie.After-put-flag) where
   abbrev start : tie.Start
   start = c .before .before .before .before .before .before .before .before .before .before
 
-  abbrev s : Fields
+  abbrev s : Machine
   s = start .args .t1
 
   abbrev e : Entry
@@ -66,7 +67,7 @@ module _ (c : tie.After-put-flag) where
   abbrev lines : Lines
   lines = record { holders = c .before .before .before .before .put-holder .last .0; dirty = c .put-flag .last .0; states = s .lines .states }
 
-  abbrev claimed : Fields
+  abbrev claimed : Machine
   claimed =
       record {
         lost = s .lost;
@@ -138,11 +139,10 @@ module _ (c : tie.After-mark-logged) where
         undos = removed 0 count (old .len) (old .undos);
         redos = removed 0 count (old .len) (old .redos);
         len = old .len - count;
-        threads = removed 0 count (old .len) (old .threads);
-        words = removed 0 count (old .len) (old .words);
+        keys = removed 0 count (old .len) (old .keys);
       }
 
-  abbrev room : Fields
+  abbrev room : Machine
   room = undosGone (claimed here) count (c .mark-logged .last .0) rest
 
   ready : WholeState (undosLogged count (view (claimed here))) room
@@ -150,13 +150,13 @@ module _ (c : tie.After-mark-logged) where
       let p = start here .pre in
       let wide = whole-claimed here in
       let whole = whole-undos here in
-      let marks = c .mark-logged .ensures (wide .states) (whole .keys .words) in
+      let marks = c .mark-logged .ensures (wide .states) (whole .both .keys) in
       record {
-        seen = undos-gone (claimed here) count (c .mark-logged .last .0) rest wide (whole .keys .words) (few-first here .1) (omega arith) (omega arith)
+        seen = undos-gone (claimed here) count (c .mark-logged .last .0) rest wide (whole .both .keys) (few-first here .1) (omega arith) (omega arith)
             marks
-            (undos-dropped 16 count (old .len) (old .threads) (old .words) (old .undos) (old .redos) (few-first here .1) (omega arith) whole);
-        lines = whole-marked (old .words) (lines here) (c .mark-logged .last .0) count wide marks;
-        undos = whole-closed 16 0 count (old .len) (old .threads) (old .words) (old .undos) (old .redos) whole;
+            (undos-dropped 16 count (old .len) (old .keys) (old .undos) (old .redos) (few-first here .1) (omega arith) whole);
+        lines = whole-logged (take count (old .keys)) (lines here) (c .mark-logged .last .0) wide marks;
+        undos = whole-closed 16 0 count (old .len) (old .keys) (old .undos) (old .redos) whole;
       }
 
   limits : (old .len - count < 16) × ((s here .redos .len ≤ 32) × (s here .words ≤ 512))
@@ -170,7 +170,7 @@ module _ (c : tie.After-mark-logged) where
 
 add-state-2 : tie.Need-add-state-2
 add-state-2 c =
-    let m = c .before .before .before .before .before .before .before .before .before in
+    let m = c .before .before .before .before .before .before .before .before in
     let few = few-first (here m) .0 in
     let p = start (here m) .pre in
     omega arith
@@ -184,7 +184,7 @@ put-value-requires c κs =
 -- a Clean word has its first entry, and is Dirty
 module _ (c : tie.After-mark) where
   abbrev made : tie.After-mark-logged
-  made = c .before .before .before .before .before .before .before .before .before .before .before
+  made = c .before .before .before .before .before .before .before .before .before .before
 
   abbrev entries : UndoBuffer
   entries =
@@ -192,8 +192,7 @@ module _ (c : tie.After-mark) where
         undos = c .before .before .before .before .before .push-value .last .0;
         redos = c .before .before .before .push-value2 .last .0;
         len = old made .len - count made + 1;
-        threads = c .before .before .before .before .before .before .before .before .before .push-thread .last .0;
-        words = c .before .before .before .before .before .before .before .push-word .last .0;
+        keys = c .before .before .before .before .before .before .before .push-key .last .0;
       }
 
   -- `ds` are the redo entries that remain
@@ -207,15 +206,16 @@ module _ (c : tie.After-mark) where
       let h = here made in
       let k = h .before .before .before .before .before .before .state-of .result in
       let l = limits made in
+      let p = start h .pre in
       next-other (view (s h)) mem (e h .thread) (e h .word) (e h .redo) (eqb (e h .redo) (e h .undo))
       (firstLines (s h .words / 8) (lines h)) (e h .undo) k (start h .args .count)
       (view (room made)) _ (differs h) (claim h) was (start h .pre .1 .1) (kind h) (ready made .seen)
-      (stored-first (room made) (e h) k (entries .threads) (entries .words) (entries .undos) (entries .redos) (c .mark .last .0) ds
-      (ready made .lines) (ready made .undos) (l .0) (l .1 .1) (made .before .before .before .before .match .keys1)
-      (c .before .before .before .before .before .before .before .before .before .push-thread .ensures (whole-undos h .keys .threads))
-      (c .before .before .before .before .before .before .before .push-word .ensures (whole-undos h .keys .words))
+      (stored-first (room made) (e h) k (entries .keys) (entries .undos) (entries .redos) (c .mark .last .0) ds
+      (ready made .lines) (ready made .undos) (l .0) (l .1 .1) (p .1 .0 .0) (p .1 .0 .1 .0) (made .before .before .before .before .match .keys1)
+      (c .before .before .before .before .before .before .before .push-key .ensures (whole-undos h .both .keys)
+      ∙ ap (set (room made .undos .keys) (room made .undos .len)) (c .before .before .before .before .before .before .before .before .key .ensures))
       (c .before .before .before .before .before .push-value .ensures (whole-undos h .undos))
-      (c .before .before .before .push-value2 .ensures (whole-undos h .keys .redos))
+      (c .before .before .before .push-value2 .ensures (whole-undos h .both .redos))
       (c .mark .ensures (ready made .lines .states)) kept)
 
 -- the place of the word's redo entry was looked for
@@ -229,20 +229,18 @@ module _ (c : tie.After-find) where
   redo-place : c .find .result ≡ indexOf (e at .word) (redosWaiting (s at .redos))
   redo-place =
       let d = s at .redos in
-      place-found (e at .word) (d .len) 32 (c .find .result) (d .threads) (d .words) [] (d .redos) (whole-keys (start at) .words) (limits (made marked-so) .1 .0)
-      (c .find .ensures (d .threads) [] (d .redos))
+      place-found (e at .word) (d .len) 32 (c .find .result) (d .keys) [] (d .redos) (whole-keys (start at) .keys) (limits (made marked-so) .1 .0)
+      (c .find .ensures [] (d .redos))
 
 returns-2 : tie.Need-returns-2
 returns-2 c mem was =
-    let threads = c .before .before .before .before .before .remove-threads in
-    let words = c .before .before .before .remove-words in
+    let keys = c .before .before .before .remove-keys in
     let values = c .before .remove-values in
-    let found = c .before .before .before .before .before .before .before .before in
+    let found = c .before .before .before .before .before .before in
     let d = s (at found) .redos in
     first-stored (marked-so found) mem was _
-    (redos-kept d (e (at found) .word) (found .find .result) (threads .last .0) (words .last .0) (values .last .0) (whole-keys (start (at found)))
-    (limits (made (marked-so found)) .1 .0) (c .before .before .before .before .before .before .before .if2 .taken) (redo-place found)
-    (threads .ensures) (words .ensures) (values .ensures))
+    (redos-kept d (e (at found) .word) (found .find .result) (keys .last .0) (values .last .0) (whole-keys (start (at found)))
+    (limits (made (marked-so found)) .1 .0) (c .before .before .before .before .before .if2 .taken) (redo-place found) (keys .ensures) (values .ensures))
 
 returns-3 : tie.Need-returns-3
 returns-3 c mem was =
@@ -260,8 +258,8 @@ module _ (c : tie.After-find2) where
   place =
       let d = s known .undos in
       let p = start known .pre in
-      place-found (e known .word) (d .len) 16 (c .find2 .result) (d .threads) (d .words) (d .undos) (d .redos) (whole-undos known .keys .words)
-      (omega arith) (c .find2 .ensures (d .threads) (d .undos) (d .redos))
+      place-found (e known .word) (d .len) 16 (c .find2 .result) (d .keys) (d .undos) (d .redos) (whole-undos known .both .keys)
+      (omega arith) (c .find2 .ensures (d .undos) (d .redos))
 
   -- `us` are the undo+redo entries with its new redo
   dirty-stored : (mem : Memory) → getD (mem .working) (e known .word) 0 ≡ e known .undo → (us : List Entry)
@@ -281,10 +279,10 @@ returns-4 c mem was =
     let found = c .before .before .before in
     let b = s (known found) .undos in
     let p = start (known found) .pre in
-    let whole = whole-undos (known found) .keys .redos in
+    let whole = whole-undos (known found) .both .redos in
     dirty-stored found mem was _
     (rw (c .put-value .ensures)
-    (amended-at (e (known found) .word) (e (known found) .redo) (b .len) (b .threads) (b .words) (b .undos) (b .redos) (found .find2 .result)
+    (amended-at (e (known found) .word) (e (known found) .redo) (b .len) (b .keys) (b .undos) (b .redos) (found .find2 .result)
     (omega arith) (c .before .before .if3 .taken) (place found)))
 
 returns-5 : tie.Need-returns-5
@@ -331,10 +329,9 @@ next-state-spec =
     (λ c κs. search needs)
     (λ c κs. search needs)
     (λ c κs. search needs)
-    (λ c. few-first (here (c .before .before .before .before .before .before .before .before)) .1)
-    (λ c. let l = limits (c .before .before .before .before .before .before .before .before) .0 in omega arith)
+    (λ c. few-first (here (c .before .before .before .before .before .before .before)) .1)
+    (λ c. let l = limits (c .before .before .before .before .before .before .before) .0 in omega arith)
     add-state-2
-    (λ c κs. search needs)
     (λ c κs. search needs)
     (λ c κs. search needs)
     (λ c κs. search needs)

@@ -13,10 +13,10 @@ use Rattle.model.specs.Machine.{Machine, Memory}
 use Rattle.model.specs.Refusals.{numberOf}
 use Rattle.model.specs.Steps.{storeLogs, storeRecords, storeRows, undoRecords}
 use Rattle.model.specs.Step.{store}
-use Rattle.buffers.proofs.Appending.{Appended, appended-none, appended-length}
+use Rattle.log.specs.Appended.{Appended}
+use Rattle.log.proofs.Appended.{appended-none, appended-length}
 use Rattle.buffers.proofs.Guards.{undos-appended}
 use Rattle.state.specs.View.{view, memory}
-use Rattle.steps.specs.Steps.{TakenOut}
 use Rattle.steps.proofs.Outcome.{refused-way}
 use Rattle.steps.proofs.StoreParts.{logs-most, undos-length, redos-length}
 use Rattle.steps.proofs.Appending.{appended-of, append-done, append-cut}
@@ -42,8 +42,8 @@ returns c =
     let d = c .before .before in
     let s = begin d in
     let a = s .args in
-    refused-way (store (a .thread) (a .word) (a .value)) (a .supply) (a .state) (lent s) (s .pre .1) (d .place-refusal .result)
-    (place-refused (a .state) (lent s) (a .thread) (a .word) (a .value) (s .pre .1) (d .place-refusal .result) (early-here d) (c .before .if1 .taken))
+    refused-way (store (a .thread) (a .word) (a .value)) (a .supply) (a .state) (lent s) (s .pre) (d .place-refusal .result)
+    (place-refused (a .state) (lent s) (a .thread) (a .word) (a .value) (s .pre) (d .place-refusal .result) (early-here d) (c .before .if1 .taken))
     (c .before .if1 .taken) refl
     (c .refused .result) (c .refused .ensures)
 
@@ -54,7 +54,7 @@ module _ (c : tie.Else1) where
 
   known-here : Known (start .args .state) (lent start) (start .args .thread) (start .args .word) (start .args .value)
   known-here =
-      known (start .args .state) (lent start) (start .args .thread) (start .args .word) (start .args .value) (start .pre .1)
+      known (start .args .state) (lent start) (start .args .thread) (start .args .word) (start .args .value) (start .pre)
       (c .before .place-refusal .result) (early-here (c .before)) (c .if1 .left)
 
 cast-t23 : tie.Need-cast-t23
@@ -80,21 +80,16 @@ slice-read-if4 c =
     let length = known-here (c .before) .fits .working in
     omega arith
 
-element-copy-out-idle : tie.Need-element-copy-out-idle
-element-copy-out-idle c =
-    let thread = known-here (c .before) .thread in
-    omega arith
-
 held-by-another-requires : tie.Need-held-by-another-requires
 held-by-another-requires c κs =
-    let k = known-here (c .before .before) in
+    let k = known-here (c .before .before .before .before .before .before .before) in
     let word = k .word in
     let most = k .width .most in
     omega arith
 
 logs-first-requires : tie.Need-logs-first-requires
 logs-first-requires c κs =
-    let here = c .before .before .before .before in
+    let here = c .before .before .before .before .before .before .before .before .before .before in
     let k = known-here here in
     let word = k .word in
     let most = k .width .most in
@@ -105,10 +100,7 @@ logs-first-requires c κs =
 -- how many entries are logged first
 module _ (c : tie.After-logs-first) where
   abbrev passed : tie.Else1
-  passed = c .before .before .before .before .before
-
-  abbrev out : TakenOut (start passed .args .opened .now) (start passed .args .holders .now) (start passed .args .states .now) (start passed .args .state)
-  out = start passed .pre .0
+  passed = c .before .before .before .before .before .before .before .before .before .before .before
 
   abbrev same : Bool
   same = eqb (start passed .args .value) (getD (start passed .args .working .now) (start passed .args .word) 0)
@@ -117,7 +109,7 @@ module _ (c : tie.After-logs-first) where
   count-here =
       let word = known-here passed .word in
       let whole = known-here passed .width .whole in
-      c .logs-first .ensures (start passed .args .state) (sym (out .isStates)) refl (omega arith)
+      c .logs-first .ensures (start passed .args .state) refl refl (omega arith)
 
   count-few : c .logs-first .result ≤ 1
   count-few =
@@ -144,18 +136,19 @@ module _ (c : tie.After-store-refusal) where
       let k = known-here here in
       let word = k .word in
       let whole = k .width .whole in
-      let taken = c .before .before .before .held-by-another in
-      late-number (a .state) (lent begun) (a .thread) (a .word) (a .value) (begun .pre .1) (here .before .place-refusal .result)
-      (early-here (here .before)) (here .if1 .left) (a .opened .now) (taken .result) (c .before .logs-first .result) (c .store-refusal .result)
-      (out (c .before) .isOpened) (count-here (c .before))
-      (taken .ensures (a .state .lines) (sym (out (c .before) .isHolders)) (a .state .words / 8) (omega arith))
+      let taken = c .before .before .before .before .held-by-another in
+      late-number (a .state) (lent begun) (a .thread) (a .word) (a .value) (begun .pre) (here .before .place-refusal .result)
+      (early-here (here .before)) (here .if1 .left) (c .before .before .before .before .before .before .is-open .result) (taken .result)
+      (c .before .logs-first .result) (c .store-refusal .result)
+      (c .before .before .before .before .before .before .is-open .ensures) (count-here (c .before))
+      (taken .ensures (a .state .lines) refl (a .state .words / 8) (omega arith))
       (c .store-refusal .ensures (view (a .state)) (lent begun) (record { slots = refl; head = refl; tail = refl }))
 
 returns-2 : tie.Need-returns-2
 returns-2 c =
     let late = c .before .before in
     let a = begun late .args in
-    refused-way (store (a .thread) (a .word) (a .value)) (a .supply) (a .state) (lent (begun late)) (begun late .pre .1)
+    refused-way (store (a .thread) (a .word) (a .value)) (a .supply) (a .state) (lent (begun late)) (begun late .pre)
     (late .store-refusal .result) (late-here late) (c .before .if2 .taken) refl
     (c .refused2 .result) (c .refused2 .ensures)
 
@@ -184,7 +177,7 @@ module _ (c : tie.Joined3) where
 
   appends : StoreAppends (entry .args .state) (lent entry) (entry .args .thread) (entry .args .word) (entry .args .value)
   appends =
-      store-appends (entry .args .state) (lent entry) (entry .args .thread) (entry .args .word) (entry .args .value) (entry .pre .1)
+      store-appends (entry .args .state) (lent entry) (entry .args .thread) (entry .args .word) (entry .args .value) (entry .pre)
       (sym (late-here (late .before)) ∙ late .if2 .left)
 
   counted : length (storeRecords (view (entry .args .state)) (lent entry) (entry .args .word) (entry .args .value)) ≡ count .logs-first .result
@@ -197,8 +190,10 @@ module _ (c : tie.Joined3) where
   logged =
       let undos = entry .args .state .undos in
       let few : undos .len ≤ 16 = omega (arith, undos-length undos, known-entry .fits .clauses .undoSize) in
+      let most : count .logs-first .result ≤ undos .len =
+      omega (arith, count-here count, undos-length undos, logs-most (view (entry .args .state)) (entry .args .word) (same count) .1) in
       appended-of (λ k. undoRecords k (view (entry .args .state))) (count .logs-first .result) _ (count-here count)
-      (⊎-elim (λ w. appended-as _ _ _ _ (w .6) (w .7) (undos-appended (count .logs-first .result) undos few (w .3 .ensures)))
+      (⊎-elim (λ w. appended-as _ _ _ _ (w .10) (w .11) (undos-appended (count .logs-first .result) undos most few (w .7 .ensures)))
       (λ w.
       appended-as _ _ _ _ (w .1) (w .2)
       (logged-none (count .logs-first .result) (view (entry .args .state)) (entry .args .supply) (lent entry .log) (entry .args .state .tail) (w .0 .left)))
@@ -235,7 +230,7 @@ next-state-requires c κs =
     let fewer = f .undoSize in
     let few = f .redoSize in (
       (omega arith, (omega arith, f .tail)),
-      ((k .word, (k .width .most, k .width .whole)), count-here (count (c .before))),
+      ((k .thread, (k .word, (k .width .most, k .width .whole))), count-here (count (c .before))),
     )
 
 returns-4 : tie.Need-returns-4
@@ -258,7 +253,7 @@ stored-spec =
     cast-t24
     mul-if4
     slice-read-if4
-    element-copy-out-idle
+    (λ c κs. search needs)
     held-by-another-requires
     logs-first-requires
     store-refusal-requires

@@ -1,7 +1,6 @@
 -- `written_back` meets its contract: refused, cut, or done.
-use Prim.Native.Nat.{ℕ}
-use mathlib.Core.Path.{_≡_, refl, sym, _∙_, ap}
-use mathlib.Core.List.{List, []}
+use mathlib.Core.Path.{_≡_, refl, sym, _∙_}
+use mathlib.Core.List.{[]}
 use native.Mathlib.Omega.{arith}
 use Rattle.lines.proofs.FirstLines.{WholeLines}
 use Rattle.model.specs.Machine.{Memory}
@@ -10,7 +9,7 @@ use Rattle.model.specs.Steps.{lineRows}
 use Rattle.model.specs.Step.{writeBack}
 use Rattle.state.specs.View.{view, memory}
 use Rattle.steps.proofs.Outcome.{common-narrow, refused-way}
-use Rattle.steps.proofs.LineRows.{lineNumber, line-number}
+use Rattle.steps.proofs.LineRows.{line-number}
 use Rattle.steps.proofs.WritingBack.{write-fit, write-cut, write-done}
 use borrow.Author.Needs.{needs}
 use Rattle.steps.proofs.writing_back.written_back.Statement.{statement}
@@ -18,7 +17,7 @@ use Rattle.steps.proofs.writing_back.written_back.Tie as tie
 
 -- where the step began, and where it was not refused
 abbrev start : tie.After-line-refusal → tie.Start
-start c = c .before .before .before .before
+start c = c .before .before .before .before .before .before
 
 abbrev passed : tie.After-store-line → tie.Else1
 passed c = c .before .before .before
@@ -34,8 +33,8 @@ number : (c : tie.After-line-refusal) → c .line-refusal .result ≡ numberOf (
 unfolding numberOf
 number c =
     let s = start c in
-    line-number (s .args .state) (s .args .line) 0 (c .line-refusal .result) [] (common-narrow (view (s .args .state)) (lent s) (s .pre .1)) (λ _. refl)
-    (c .line-refusal .ensures ∙ ap (λ (ss : List ℕ). lineNumber (s .args .state .words) ss (s .args .line) 0) (s .pre .0))
+    line-number (s .args .state) (s .args .line) 0 (c .line-refusal .result) [] (common-narrow (view (s .args .state)) (lent s) (s .pre)) (λ _. refl)
+    (c .line-refusal .ensures)
 
 -- no row applies where the step goes on
 none : (c : tie.Else1) → numberOf (lineRows (view (start (c .before) .args .state)) (start (c .before) .args .line)) ≡ 0
@@ -45,7 +44,7 @@ returns : tie.Need-returns
 returns c =
     let refused = c .before .before in
     let a = start refused .args in
-    refused-way (writeBack (a .line)) (a .supply) (a .state) (lent (start refused)) (start refused .pre .1) (refused .line-refusal .result)
+    refused-way (writeBack (a .line)) (a .supply) (a .state) (lent (start refused)) (start refused .pre) (refused .line-refusal .result)
     (number refused) (c .before .if1 .taken) refl
     (c .refused .result) (c .refused .ensures)
 
@@ -56,14 +55,14 @@ returns-2 c =
     let began = passed stored in
     let s = start (began .before) in
     let a = s .args in
-    write-cut (a .line) (a .supply) (a .state) (lent s) (s .pre .1) (none began) (ended .cut .result) (stored .store-line .last .0)
+    write-cut (a .line) (a .supply) (a .state) (lent s) (s .pre) (none began) (ended .cut .result) (stored .store-line .last .0)
     (stored .store-line .ensures .1) (ended .cut .last .0) (ended .before .before .if2 .taken) (ended .cut .ensures .0) (ended .cut .ensures .1)
 
 put-flag-requires : tie.Need-put-flag-requires
 put-flag-requires c κs =
     let began = passed (c .before .before .before .before .before) in
     let s = start (began .before) in
-    let f = write-fit (s .args .line) (s .args .supply) (s .args .state) (lent s) (s .pre .1) (none began) in
+    let f = write-fit (s .args .line) (s .args .supply) (s .args .state) (lent s) (s .pre) (none began) in
     omega arith
 
 returns-3 : tie.Need-returns-3
@@ -73,7 +72,7 @@ returns-3 c =
     let began = passed stored in
     let s = start (began .before) in
     let a = s .args in
-    write-done (a .line) (a .supply) (a .state) (lent s) (s .pre .1) (none began) (record { answer = 0; left = stored .store-line .result; state = _ })
+    write-done (a .line) (a .supply) (a .state) (lent s) (s .pre) (none began) (record { answer = 0; left = stored .store-line .result; state = _ })
     (stored .store-line .last .0) (stored .store-line .ensures .1)
     (c .put-flag .last .0) (enough .if2 .left) refl (stored .store-line .ensures .0) refl (whole-lines s) (c .put-flag .ensures)
 

@@ -5,7 +5,6 @@ ghost use mathlib.Core.Path.{_≡_};
 ghost use Rattle.lines.specs.Lines.{freeLines};
 
 mod home_stores;
-mod marking;
 mod numbers;
 mod releasing;
 mod ulog_records;
@@ -14,7 +13,6 @@ mod word_states;
 
 pub use home_stores::has_dirty;
 pub use home_stores::store_line;
-pub use marking::mark;
 pub use numbers::least;
 pub use numbers::less;
 pub use releasing::release_holders;
@@ -26,6 +24,7 @@ pub use word_states::CLEAN;
 pub use word_states::DIRTY;
 pub use word_states::U_LOG;
 pub use word_states::UR_LOG;
+pub use word_states::mark;
 pub use word_states::state_at;
 pub use word_states::with_state;
 

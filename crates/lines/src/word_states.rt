@@ -1,7 +1,9 @@
 // The two-bit states of a line's words.
 ghost use mathlib.Core.Path.{_≡_};
 ghost use mathlib.Core.Bool.{cond, _&&_};
+ghost use Prim.Native.Nat.{_/_, _%_};
 ghost use lib.Dec.{ltb};
+ghost use lib.ListN.{length, getD, set};
 ghost use Rattle.parts.specs.States.{stateAt, withState};
 
 // "0 Clean, 1 Dirty (its entry waits in the undo+redo buffer), 2 URLog (undo and newest redo logged), 3 ULog (undo
@@ -34,5 +36,18 @@ pub fn with_state(states: u16, j: u64, state: u64) -> u16
         (others + (state << (2 * j))) as u16
     } else {
         states
+    }
+}
+
+// The state of a word replaced, in the states of all 64 lines. There are four states; a word past the last line has
+// none.
+pub fn mark(states: &mut [u16; 64], word: u16, state: u64)
+    ensures { λ _. ⌜ (length (now (states .entry)) ≡ 64 → now (states .exit)
+        ≡ set (now (states .entry)) (word / 8) (withState (getD (now (states .entry)) (word / 8) 0) (word % 8)
+        (state % 4))) ⌝ }
+{
+    let at = (word / 8) as usize;
+    if at < 64 {
+        states[at] = with_state(states[at], (word % 8) as u64, state % 4);
     }
 }

@@ -85,7 +85,7 @@ fn carry_out(
 {
     let undos = state.undos.len;
     let redos = state.redos.len;
-    let first = append_undos(
+    let after_undos = append_undos(
         log,
         state.tail,
         &state.undos.keys,
@@ -94,30 +94,30 @@ fn carry_out(
         undos,
         supply,
     );
-    let second = state.tail + undos as u64;
-    let after = append_redos(
+    let redos_from = state.tail + undos as u64;
+    let after_redos = append_redos(
         log,
-        second,
+        redos_from,
         &state.redos.keys,
         &state.redos.redos,
         redos,
-        first,
+        after_undos,
     );
-    let third = second + redos as u64;
-    let rest = append_newest(
+    let newest_from = redos_from + redos as u64;
+    let after_newest = append_newest(
         log,
-        third,
+        newest_from,
         working,
         &state.lines.holders,
         &state.lines.states,
         thread as u8,
-        after,
+        after_redos,
     );
-    let last = state.tail + count - 1;
+    let commit_at = state.tail + count - 1;
     let record = Record::Commit {
         thread: thread as u8,
     };
-    let left = log::append(log, last, record, rest);
+    let left = log::append(log, commit_at, record, after_newest);
     if supply < 3 * count {
         return cut(working);
     }

@@ -7,8 +7,8 @@ use borrow.Author.Tests.{lt-ltb}
 use lib.ListN.{getD, set}
 use lib.Seq.{set-out}
 use Rattle.parts.specs.States.{withState}
-use Rattle.lines.proofs.marking.mark.Statement.{statement}
-use Rattle.lines.proofs.marking.mark.Tie as tie
+use Rattle.lines.proofs.word_states.mark.Statement.{statement}
+use Rattle.lines.proofs.word_states.mark.Tie as tie
 
 returns : tie.Need-returns
 returns c whole =

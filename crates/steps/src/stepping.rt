@@ -16,6 +16,7 @@ use crate::log_oldest::undo_logged;
 use crate::refusals::common;
 use crate::refusals::refuse;
 use crate::refusals::refused;
+use crate::storing::Target;
 use crate::storing::stored;
 use crate::writing_back::written_back;
 use parts::Step;
@@ -90,7 +91,14 @@ fn dispatch<'a>(
             thread,
             word,
             value,
-        } => stored(state, home, working, log, supply, thread, word, value),
+        } => {
+            let target = Target {
+                thread,
+                word,
+                value,
+            };
+            stored(state, holders, states, home, working, log, supply, target)
+        }
         Step::LogUndo => undo_logged(state, home, working, log, supply),
         Step::LogRedo => redo_logged(state, home, working, log, supply),
         Step::Evict { line } => evicted(state, home, working, log, supply, line),

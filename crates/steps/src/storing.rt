@@ -15,7 +15,7 @@ ghost use Rattle.model.specs.Step.{store, stepped};
 ghost use Rattle.model.specs.Steps.{storeLogs, storeNext};
 ghost use Rattle.state.specs.View.{view, memory, shown};
 ghost use Rattle.state.specs.HandedBack.{HandedBack};
-ghost use Rattle.steps.specs.Steps.{LogOf};
+ghost use Rattle.steps.specs.Steps.{TakenOut, LogOf};
 use crate::arrays::is_open;
 use crate::arrays::put_flag;
 use crate::arrays::put_holder;
@@ -147,23 +147,34 @@ fn store_refusal(idle: bool, taken: bool, count: usize, slots: u16, head: u64, t
     )
 }
 
-// The step, of a state that the common rows do not refuse.
-pub(crate) fn stored(
+// What a store is to do: for which thread, to which word, and the value.
+pub(crate) struct Target {
+    pub thread: u64,
+    pub word: u64,
+    pub value: u64,
+}
+
+// The step, of a state that the common rows do not refuse; the lent arrays are taken out of it.
+pub(crate) fn stored<'a>(
     state: Machine,
+    holders: &'a [u8; 64],
+    states: &'a [u16; 64],
     home: &[u64],
     working: &mut [u64],
     log: &mut [u64],
     supply: u64,
-    thread: u64,
-    word: u64,
-    value: u64,
+    target: Target,
 ) -> Outcome
+    requires { ⌜ TakenOut (now holders) (now states) state ⌝ }
     requires { ⌜ numberOf (commonRows (view state) (memory (now home) (now working) (now log))) ≡ 0 ⌝ }
     ensures { λ (r : Outcome). ⌜ shown r (now (home .entry)) (now (working .exit)) (now (log .exit))
-        ≡ stepped (store thread word value) supply (view state) (memory (now (home .entry)) (now (working .entry))
+        ≡ stepped (store (target .thread) (target .word) (target .value)) supply (view state) (memory (now (home .entry)) (now (working .entry))
         (now (log .entry))) ⌝ }
     ensures { λ (r : Outcome). ⌜ HandedBack state r ⌝ }
 {
+    let thread = target.thread;
+    let word = target.word;
+    let value = target.value;
     let place = place_refusal(state.words, thread, word);
     if place != 0 {
         return refused(place, supply, state);
@@ -176,12 +187,10 @@ pub(crate) fn stored(
         redo: value,
     };
     let opened = state.opened;
-    let holders = state.lines.holders;
-    let states = state.lines.states;
     let idle = !is_open(&opened, thread);
-    let taken = held_by_another(&holders, thread, entry.word);
+    let taken = held_by_another(holders, thread, entry.word);
     let same = value == entry.undo;
-    let count = logs_first(&states, state.undos.len, entry.word, same);
+    let count = logs_first(states, state.undos.len, entry.word, same);
     let own = store_refusal(idle, taken, count, state.slots, state.head, state.tail);
     if own != 0 {
         return refused(own, supply, state);

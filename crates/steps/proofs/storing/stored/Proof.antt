@@ -34,7 +34,7 @@ begin c = c .before .before .before .before
 
 -- the number of the first rows, on thread and word
 early-here : (c : tie.After-place-refusal) → let a = begin c .args in
-    c .place-refusal .result ≡ numberOf (placeRows (view (a .state)) (a .thread) (a .word))
+    c .place-refusal .result ≡ numberOf (placeRows (view (a .state)) (a .target .thread) (a .target .word))
 early-here c = c .place-refusal .ensures (view (begin c .args .state)) refl
 
 returns : tie.Need-returns
@@ -42,8 +42,8 @@ returns c =
     let d = c .before .before in
     let s = begin d in
     let a = s .args in
-    refused-way (store (a .thread) (a .word) (a .value)) (a .supply) (a .state) (lent s) (s .pre) (d .place-refusal .result)
-    (place-refused (a .state) (lent s) (a .thread) (a .word) (a .value) (s .pre) (d .place-refusal .result) (early-here d) (c .before .if1 .taken))
+    refused-way (store (a .target .thread) (a .target .word) (a .target .value)) (a .supply) (a .state) (lent s) (s .pre .1) (d .place-refusal .result)
+    (place-refused (a .state) (lent s) (a .target .thread) (a .target .word) (a .target .value) (s .pre .1) (d .place-refusal .result) (early-here d) (c .before .if1 .taken))
     (c .before .if1 .taken) refl
     (c .refused .result) (c .refused .ensures)
 
@@ -52,18 +52,18 @@ module _ (c : tie.Else1) where
   abbrev start : tie.Start
   start = begin (c .before)
 
-  known-here : Known (start .args .state) (lent start) (start .args .thread) (start .args .word) (start .args .value)
+  known-here : Known (start .args .state) (lent start) (start .args .target .thread) (start .args .target .word) (start .args .target .value)
   known-here =
-      known (start .args .state) (lent start) (start .args .thread) (start .args .word) (start .args .value) (start .pre)
+      known (start .args .state) (lent start) (start .args .target .thread) (start .args .target .word) (start .args .target .value) (start .pre .1)
       (c .before .place-refusal .result) (early-here (c .before)) (c .if1 .left)
-
-cast-t23 : tie.Need-cast-t23
-cast-t23 c =
-    let thread = known-here c .thread in
-    omega arith
 
 cast-t24 : tie.Need-cast-t24
 cast-t24 c =
+    let thread = known-here c .thread in
+    omega arith
+
+cast-t25 : tie.Need-cast-t25
+cast-t25 c =
     let word = known-here c .word in
     let most = known-here c .width .most in
     omega arith
@@ -82,14 +82,14 @@ slice-read-if4 c =
 
 held-by-another-requires : tie.Need-held-by-another-requires
 held-by-another-requires c κs =
-    let k = known-here (c .before .before .before .before .before .before .before) in
+    let k = known-here (c .before .before .before .before) in
     let word = k .word in
     let most = k .width .most in
     omega arith
 
 logs-first-requires : tie.Need-logs-first-requires
 logs-first-requires c κs =
-    let here = c .before .before .before .before .before .before .before .before .before .before in
+    let here = c .before .before .before .before .before .before in
     let k = known-here here in
     let word = k .word in
     let most = k .width .most in
@@ -100,20 +100,20 @@ logs-first-requires c κs =
 -- how many entries are logged first
 module _ (c : tie.After-logs-first) where
   abbrev passed : tie.Else1
-  passed = c .before .before .before .before .before .before .before .before .before .before .before
+  passed = c .before .before .before .before .before .before .before
 
   abbrev same : Bool
-  same = eqb (start passed .args .value) (getD (start passed .args .working .now) (start passed .args .word) 0)
+  same = eqb (start passed .args .target .value) (getD (start passed .args .working .now) (start passed .args .target .word) 0)
 
-  count-here : c .logs-first .result ≡ storeLogs (view (start passed .args .state)) (start passed .args .word) same
+  count-here : c .logs-first .result ≡ storeLogs (view (start passed .args .state)) (start passed .args .target .word) same
   count-here =
       let word = known-here passed .word in
       let whole = known-here passed .width .whole in
-      c .logs-first .ensures (start passed .args .state) refl refl (omega arith)
+      c .logs-first .ensures (start passed .args .state) (sym (start passed .pre .0 .isStates)) refl (omega arith)
 
   count-few : c .logs-first .result ≤ 1
   count-few =
-      let few = logs-most (view (start passed .args .state)) (start passed .args .word) same .0 in
+      let few = logs-most (view (start passed .args .state)) (start passed .args .target .word) same .0 in
       let count = count-here in
       omega arith
 
@@ -129,26 +129,26 @@ module _ (c : tie.After-store-refusal) where
   begun = start (passed (c .before))
 
   late-here : c .store-refusal .result
-      ≡ numberOf (storeRows (view (begun .args .state)) (lent begun) (begun .args .thread) (begun .args .word) (begun .args .value))
+      ≡ numberOf (storeRows (view (begun .args .state)) (lent begun) (begun .args .target .thread) (begun .args .target .word) (begun .args .target .value))
   late-here =
       let here = passed (c .before) in
       let a = begun .args in
       let k = known-here here in
       let word = k .word in
       let whole = k .width .whole in
-      let taken = c .before .before .before .before .held-by-another in
-      late-number (a .state) (lent begun) (a .thread) (a .word) (a .value) (begun .pre) (here .before .place-refusal .result)
-      (early-here (here .before)) (here .if1 .left) (c .before .before .before .before .before .before .is-open .result) (taken .result)
+      let taken = c .before .before .before .held-by-another in
+      late-number (a .state) (lent begun) (a .target .thread) (a .target .word) (a .target .value) (begun .pre .1) (here .before .place-refusal .result)
+      (early-here (here .before)) (here .if1 .left) (c .before .before .before .before .is-open .result) (taken .result)
       (c .before .logs-first .result) (c .store-refusal .result)
-      (c .before .before .before .before .before .before .is-open .ensures) (count-here (c .before))
-      (taken .ensures (a .state .lines) refl (a .state .words / 8) (omega arith))
+      (c .before .before .before .before .is-open .ensures) (count-here (c .before))
+      (taken .ensures (a .state .lines) (sym (begun .pre .0 .isHolders)) (a .state .words / 8) (omega arith))
       (c .store-refusal .ensures (view (a .state)) (lent begun) (record { slots = refl; head = refl; tail = refl }))
 
 returns-2 : tie.Need-returns-2
 returns-2 c =
     let late = c .before .before in
     let a = begun late .args in
-    refused-way (store (a .thread) (a .word) (a .value)) (a .supply) (a .state) (lent (begun late)) (begun late .pre)
+    refused-way (store (a .target .thread) (a .target .word) (a .target .value)) (a .supply) (a .state) (lent (begun late)) (begun late .pre .1)
     (late .store-refusal .result) (late-here late) (c .before .if2 .taken) refl
     (c .refused2 .result) (c .refused2 .ensures)
 
@@ -172,26 +172,26 @@ module _ (c : tie.Joined3) where
   abbrev count : tie.After-logs-first
   count = late .before .before
 
-  known-entry : Known (entry .args .state) (lent entry) (entry .args .thread) (entry .args .word) (entry .args .value)
+  known-entry : Known (entry .args .state) (lent entry) (entry .args .target .thread) (entry .args .target .word) (entry .args .target .value)
   known-entry = known-here (passed (late .before .before))
 
-  appends : StoreAppends (entry .args .state) (lent entry) (entry .args .thread) (entry .args .word) (entry .args .value)
+  appends : StoreAppends (entry .args .state) (lent entry) (entry .args .target .thread) (entry .args .target .word) (entry .args .target .value)
   appends =
-      store-appends (entry .args .state) (lent entry) (entry .args .thread) (entry .args .word) (entry .args .value) (entry .pre)
+      store-appends (entry .args .state) (lent entry) (entry .args .target .thread) (entry .args .target .word) (entry .args .target .value) (entry .pre .1)
       (sym (late-here (late .before)) ∙ late .if2 .left)
 
-  counted : length (storeRecords (view (entry .args .state)) (lent entry) (entry .args .word) (entry .args .value)) ≡ count .logs-first .result
+  counted : length (storeRecords (view (entry .args .state)) (lent entry) (entry .args .target .word) (entry .args .target .value)) ≡ count .logs-first .result
   counted =
-      store-size (entry .args .state) (lent entry) (entry .args .thread) (entry .args .word) (entry .args .value) (count .logs-first .result)
+      store-size (entry .args .state) (lent entry) (entry .args .target .thread) (entry .args .target .word) (entry .args .target .value) (count .logs-first .result)
       (count-here count)
 
   logged : Appended (entry .args .supply) (lent entry .log) (entry .args .state .tail)
-      (storeRecords (view (entry .args .state)) (lent entry) (entry .args .word) (entry .args .value)) (c .if3 .log) (c .if3 .left)
+      (storeRecords (view (entry .args .state)) (lent entry) (entry .args .target .word) (entry .args .target .value)) (c .if3 .log) (c .if3 .left)
   logged =
       let undos = entry .args .state .undos in
       let few : undos .len ≤ 16 = omega (arith, undos-length undos, known-entry .fits .clauses .undoSize) in
       let most : count .logs-first .result ≤ undos .len =
-      omega (arith, count-here count, undos-length undos, logs-most (view (entry .args .state)) (entry .args .word) (same count) .1) in
+      omega (arith, count-here count, undos-length undos, logs-most (view (entry .args .state)) (entry .args .target .word) (same count) .1) in
       appended-of (λ k. undoRecords k (view (entry .args .state))) (count .logs-first .result) _ (count-here count)
       (⊎-elim (λ w. appended-as _ _ _ _ (w .10) (w .11) (undos-appended (count .logs-first .result) undos most few (w .7 .ensures)))
       (λ w.
@@ -249,8 +249,8 @@ stored-spec =
     (λ c κs. search needs)
     (λ c κs. search needs)
     returns
-    cast-t23
     cast-t24
+    cast-t25
     mul-if4
     slice-read-if4
     (λ c κs. search needs)

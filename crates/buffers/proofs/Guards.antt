@@ -3,7 +3,6 @@ use Prim.Native.Nat.{ℕ, _≤_, _<_}
 use mathlib.Core.Path.{_≡_, sym}
 use mathlib.Core.Bool.{true, false, _||_}
 use mathlib.Core.List.{List, [], map}
-use native.Mathlib.Decide.{decLt}
 use native.Mathlib.Omega.{arith}
 use borrow.Author.Tests.{ltb-true, ltb-false, leb-false, le-leb, lt-leb}
 use lib.Dec.{ltb, leb}
@@ -11,7 +10,7 @@ use lib.ListN.{take}
 use Rattle.log.specs.declared.Record.{Record}
 use Rattle.log.specs.Region.{numbers}
 use Rattle.log.specs.Appended.{Appended}
-use Rattle.log.proofs.Appended.{appended-none, appended-beyond}
+use Rattle.log.proofs.Appended.{appended-not}
 use Rattle.parts.specs.declared.Entry.{Entry}
 use Rattle.parts.specs.Listed.{listed}
 use Rattle.parts.proofs.Oldest.{take-listed}
@@ -37,11 +36,7 @@ module _ (f : Entry → Record) (places count : ℕ) (at : ℕ → Entry) where
   -- if not, none is appended, and none under a number that no record has
   pub oldest-not-appended : (c : ℕ) (log : List ℕ) (n : ℕ) → (leb numbers n || ltb places count) ≡ true
       → Appended c log n (oldestRecords f places count at) log c
-  oldest-not-appended c log n e =
-      elim (decLt n numbers) [
-        | yes p ↦ rw (oldest-none (rw (lt-leb numbers n p) at e)) (appended-none c log n)
-        | no q ↦ appended-beyond c log n (oldestRecords f places count at) (omega arith)
-      ]
+  oldest-not-appended c log n e = appended-not c log n (oldestRecords f places count at) (ltb places count) e oldest-none
 
   -- of so many entries the oldest ones are appended
   pub oldest-appended : {c n rest : ℕ} {before after : List ℕ} (len : ℕ) → count ≤ len → len ≤ places

@@ -8,10 +8,9 @@ use native.Mathlib.Omega.{arith}
 use borrow.Author.Tests.{leb-false, ltb-false, le-leb, lt-leb, le-ltb, eq-eqb, eqb-true, not-true, not-false}
 use lib.Dec.{eqb, ltb, leb}
 use lib.ListN.{length}
-use Rattle.log.specs.declared.Record.{Record}
 use Rattle.log.specs.Region.{numbers}
 use Rattle.log.specs.Appended.{Appended, Progressed}
-use Rattle.log.proofs.Appended.{appended-none, appended-beyond}
+use Rattle.log.proofs.Appended.{appended-not}
 use Rattle.model.proofs.Records.{both-fail}
 use Rattle.lines.specs.declared.Lines.{Lines}
 use Rattle.lines.specs.Lines.{firstLines}
@@ -48,11 +47,7 @@ module _ (lines : Lines) (working : List ℕ) (t : ℕ) where
   -- nothing is appended
   pub newest-nothing-appended : (c : ℕ) (log : List ℕ) (n : ℕ) → (leb numbers n || odd (length working)) ≡ true
       → Appended c log n (newestRecords lines working t) log c
-  newest-nothing-appended c log n e =
-      elim (decLt n numbers) [
-        | yes p ↦ rw (newest-odd (rw (lt-leb numbers n p) at e)) (appended-none c log n)
-        | no q ↦ appended-beyond c log n (newestRecords lines working t) (omega arith)
-      ]
+  newest-nothing-appended c log n e = appended-not c log n (newestRecords lines working t) (odd (length working)) e newest-odd
 
   -- those of all lines are
   pub newest-appended : {c n next k : ℕ} {log after : List ℕ} → length working ≤ 512 → length working % 8 ≡ 0

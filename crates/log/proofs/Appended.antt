@@ -1,9 +1,13 @@
 -- Records appended to a log one after another under one supply.
-use Prim.Native.Nat.{ℕ, _+_, _-_, _≤_}
+use Prim.Native.Nat.{ℕ, _+_, _-_}
 use mathlib.Core.Path.{_≡_, refl, sym, ap, ap₂, _∙_}
 use mathlib.Core.List.{List, [], _∷_, _++_}
+use mathlib.Core.Bool.{Bool, true, _||_}
 use native.Mathlib.Nat.{add-zero}
+use native.Mathlib.Decide.{decLt}
 use native.Mathlib.Omega.{arith}
+use borrow.Author.Tests.{lt-leb}
+use lib.Dec.{leb}
 use lib.ListN.{length, take, length-append}
 use Rattle.log.specs.declared.Record.{Record}
 use Rattle.log.specs.Stores.{Store, storedUnder}
@@ -25,9 +29,14 @@ appended-nothing c log n rs e = let none = under-none c log (recordsStores (slot
 pub appended-none : (c : ℕ) (log : List ℕ) (n : ℕ) → Appended c log n [] log c
 appended-none c log n = appended-nothing c log n [] (records-none (slotsOf log) n)
 
--- records under numbers that no record has
-pub appended-beyond : (c : ℕ) (log : List ℕ) (n : ℕ) (rs : List Record) → numbers ≤ n → Appended c log n rs log c
-appended-beyond c log n rs h = appended-nothing c log n rs (records-beyond (slotsOf log) n rs h)
+-- where a test passes only if there is no record, or the numbers are no record's, nothing is appended
+pub appended-not : (c : ℕ) (log : List ℕ) (n : ℕ) (rs : List Record) (t : Bool) → (leb numbers n || t) ≡ true → (t ≡ true → rs ≡ [])
+    → Appended c log n rs log c
+appended-not c log n rs t e none =
+    elim (decLt n numbers) [
+      | yes p ↦ rw (none (rw (lt-leb numbers n p) at e)) (appended-none c log n)
+      | no q ↦ appended-nothing c log n rs (records-beyond (slotsOf log) n rs (omega arith))
+    ]
 
 -- one record
 pub appended-one : {c n rest : ℕ} {before after : List ℕ} (r : Record) → rest ≡ c - length (recordStores (slotsOf before) n r)

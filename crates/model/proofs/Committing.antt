@@ -24,8 +24,7 @@ use Rattle.parts.specs.Lines.{nobody}
 use Rattle.parts.specs.States.{URLog, ULog}
 use Rattle.parts.proofs.States.{state-clean}
 use Rattle.model.specs.Lists.{keep, upTo, isEmpty}
-use Rattle.model.specs.Machine.{Machine, Memory, withLines, withUndoRedo, withRedo, isOpen, stateIn}
-use Rattle.model.specs.Machine.{holderIn, dirtyIn, allLogged, wordsMarked}
+use Rattle.model.specs.Machine.{Machine, Memory, withLines, withUndoRedo, withRedo, isOpen, stateIn, holderIn, dirtyIn, allLogged, wordsMarked}
 use Rattle.model.specs.Consistent.{entriesOf}
 use Rattle.model.specs.Steps.{undoRedoRecord, redoRecord, newestWords, newestRedos, prepareRecords, prepareNext}
 use Rattle.model.specs.Steps.{released, closeNext, commitRecords, commitNext}
@@ -33,15 +32,11 @@ use Rattle.model.specs.Step.{commit}
 use Rattle.model.specs.Book.{Book, settled, entered}
 use Rattle.model.proofs.Lists.{every-implied, every-mapped, every-kept, every-listed, take-map}
 use Rattle.model.proofs.LastTo.{lastTo, settled-word, last-append, first-none, last-made}
-use Rattle.model.proofs.Records.{Own, own-end, own-closed, redos, undo-of-redos, redo-of-redos, redos-append}
-use Rattle.model.proofs.Records.{own-redos}
-use Rattle.model.proofs.Lines.{line-released, holder-words, holder-logged, state-logged, state-words}
-use Rattle.model.proofs.Lines.{dirty-words, length-words}
-use Rattle.model.proofs.Core.{At, CoreOf, LineOk, Safe, Appends, core-safe, shape-owners, Says, says, Word}
-use Rattle.model.proofs.Core.{AtLine, EntryOk, Core, shape-lines}
+use Rattle.model.proofs.Records.{Own, own-end, own-closed, redos, undo-of-redos, redo-of-redos, redos-append, own-redos}
+use Rattle.model.proofs.Lines.{line-released, holder-words, holder-logged, state-logged, state-words, dirty-words, length-words}
+use Rattle.model.proofs.Core.{At, CoreOf, LineOk, Safe, Appends, core-safe, shape-owners, Says, says, Word, AtLine, EntryOk, Core, shape-lines}
 use Rattle.model.proofs.Logging.{says-own, says-other, newest-known, committed-word, grown, grown-none}
-use Rattle.model.proofs.Logging.{ulog-word, ulog-logged, undos-logged, redos-logged, undos-safe, redos-safe}
-use Rattle.model.proofs.Logging.{all-marked}
+use Rattle.model.proofs.Logging.{ulog-word, ulog-logged, undos-logged, redos-logged, undos-safe, redos-safe, all-marked}
 use Rattle.model.proofs.Entries.{kept-once, once-or-none}
 
 -- the redos of redo records made of words

@@ -28,8 +28,7 @@ use Rattle.model.specs.Book.{Book, entered}
 use Rattle.model.proofs.LastTo.{first, or, lastTo, first-none, last-append}
 use Rattle.model.proofs.Records.{redos, redos-append, all-records}
 use Rattle.model.proofs.Lists.{every-implied}
-use Rattle.model.proofs.Core.{Says, says, Newest, State, clean, cleanWaiting, changed, urlog, ulog, Word, LineOk}
-use Rattle.model.proofs.Core.{CoreOf, shape-owners}
+use Rattle.model.proofs.Core.{Says, says, Newest, State, clean, cleanWaiting, changed, urlog, ulog, Word, LineOk, CoreOf, shape-owners}
 
 -- a value that is right without an option stays so when an older option goes
 or-left : (o older : Option ℕ) {v : ℕ} → or (first o older) v ≡ v → or o v ≡ v

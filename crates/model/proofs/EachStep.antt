@@ -25,14 +25,12 @@ use Rattle.model.specs.Machine.{Machine, Memory, withLines, isOpen, stat
 use Rattle.model.specs.Verdict.{verdict, verdictOn}
 use Rattle.model.specs.Refusals.{common, Row, unless}
 use Rattle.model.specs.Steps.{undoRecords, redoRecords, undosLogged, storeLogs, storedAs, storeNext, isSame}
-use Rattle.model.specs.Steps.{lineWrites, prepareRecords, prepareNext, commitRecords, commitNext, verdictRows}
-use Rattle.model.specs.Steps.{deleteNext}
+use Rattle.model.specs.Steps.{lineWrites, prepareRecords, prepareNext, commitRecords, commitNext, verdictRows, deleteNext}
 use Rattle.model.specs.Step.{Step, begin, store, logUndo, logRedo, evict, writeBack, commit, deleteOldest}
 use Rattle.model.specs.Step.{recover, takesState, firstRows, ownRows, taken, workOf, planOf, stepped, appended}
 use Rattle.model.specs.Book.{Book, entered, noted}
 use Rattle.model.specs.Plan.{inHome, inLog, append, writeHome, setHead, Plan, planned, carriedOut}
-use Rattle.model.proofs.Core.{Live, Ready, width-limits, Kept, live, dark, kept, CoreOf, Safe, Appends}
-use Rattle.model.proofs.Core.{core-safe}
+use Rattle.model.proofs.Core.{Live, Ready, width-limits, Kept, live, dark, kept, CoreOf, Safe, Appends, core-safe}
 use Rattle.model.proofs.Rows.{None, room, oldest-room, IsRefusal, Refusals, Guarded, refusedAs, allowed, guard, Room}
 use Rattle.model.proofs.Rows.{own-refusals, first-refusals}
 use Rattle.model.proofs.Logging.{undos-step, redos-step}

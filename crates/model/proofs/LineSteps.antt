@@ -22,8 +22,7 @@ use Rattle.parts.specs.States.{Dirty, stateAt, Clean, ULog}
 use Rattle.parts.proofs.States.{state-clean}
 use Rattle.parts.proofs.Listed.{length-listed, getD-listed}
 use Rattle.model.specs.Lists.{keep, isEmpty, any}
-use Rattle.model.specs.Machine.{Machine, stateIn, holderIn, dirtyIn, wordsOf, changed, dirtyAs}
-use Rattle.model.specs.Machine.{Memory, lineOf, statesAs}
+use Rattle.model.specs.Machine.{Machine, stateIn, holderIn, dirtyIn, wordsOf, changed, dirtyAs, Memory, lineOf, statesAs}
 use Rattle.model.specs.Refusals.{isPending}
 use Rattle.model.specs.Steps.{lineWrites, writeBackNext, evicted, evictRecords, evictNext}
 use Rattle.model.specs.Recovery.{redoWrites, undoWrites}
@@ -33,11 +32,9 @@ use Rattle.model.proofs.LastTo.{or, lastTo, stored-word, last-made}
 use Rattle.model.proofs.Records.{redos}
 use Rattle.model.proofs.Lines.{changed-line, length-changed, every-changed}
 use Rattle.model.proofs.Entries.{keep-append, kept-line, entries-append}
-use Rattle.model.proofs.Lists.{take-map, first-empty, cond-ap, every-kept, every-listed, every-mapped, neither}
-use Rattle.model.proofs.Lists.{keep-map}
+use Rattle.model.proofs.Lists.{take-map, first-empty, cond-ap, every-kept, every-listed, every-mapped, neither, keep-map}
 use Rattle.model.proofs.Core.{Says, State, clean, cleanWaiting, urlog, ulog, free, Word, LineOk, AtLine, CoreOf}
-use Rattle.model.proofs.Core.{Safe, or-recent, core-safe, shape-lines, shape-words, Holding, held, EntryOk, Core}
-use Rattle.model.proofs.Core.{Appends, shape-entries}
+use Rattle.model.proofs.Core.{Safe, or-recent, core-safe, shape-lines, shape-words, Holding, held, EntryOk, Core, Appends, shape-entries}
 use Rattle.model.proofs.Logging.{redos-step}
 
 -- no element passes the test: each fails it

@@ -2,8 +2,7 @@
 use Prim.Native.Nat.{ℕ, _/_, _%_, _<_}
 use mathlib.Core.Path.{_≡_, refl, sym, ap, ap₂, _∙_}
 use mathlib.Core.Bool.{Bool, true, false, cond}
-use mathlib.Core.List.{List, [], _∷_, _++_, map, append-nil, append-assoc, cons≢nil, head-eq-of-cons-eq}
-use mathlib.Core.List.{tail-eq-of-cons-eq}
+use mathlib.Core.List.{List, [], _∷_, _++_, map, append-nil, append-assoc, cons≢nil, head-eq-of-cons-eq, tail-eq-of-cons-eq}
 use mathlib.Core.Logic.{_⊎_, inl, inr}
 use mathlib.Core.Option.{Option, none, some}
 use native.Mathlib.Decide.{ℕ-discrete}
@@ -30,12 +29,10 @@ use Rattle.model.specs.Recovery.{undoOfOpen, redoWrites, undoWrites}
 use Rattle.model.specs.Book.{Book}
 use Rattle.model.proofs.Lists.{take-map}
 use Rattle.model.proofs.LastTo.{lastTo, first, or, or-first, first-none, last-append}
-use Rattle.model.proofs.Records.{redos, isCommitRecord, own-end, Own, undo-of-data, redo-of-data, redos-append}
-use Rattle.model.proofs.Records.{redos-commit, of-own, of-other}
+use Rattle.model.proofs.Records.{redos, isCommitRecord, own-end, Own, undo-of-data, redo-of-data, redos-append, redos-commit, of-own, of-other}
 use Rattle.model.proofs.Lines.{state-marked, holder-marked, dirty-marked, length-marked, every-changed}
 use Rattle.model.proofs.Core.{says, Core, EntryOk, LineOk, CoreOf, Safe, Appends, core-safe, shape-lines}
-use Rattle.model.proofs.Core.{shape-entries, Says, Newest, State, clean, cleanWaiting, changed, urlog, ulog}
-use Rattle.model.proofs.Core.{Holding, free, held, Word}
+use Rattle.model.proofs.Core.{shape-entries, Says, Newest, State, clean, cleanWaiting, changed, urlog, ulog, Holding, free, held, Word}
 
 -- what the log says of a word once a record is appended with this undo and this redo of it
 abbrev pub grown : Bool → Option ℕ → Option ℕ → Says → Says

@@ -9,8 +9,7 @@ use native.Mathlib.Decide.{decLe}
 use native.Mathlib.Omega.{arith}
 use native.Mathlib.Nat.{add-zero}
 use borrow.Author.Tests.{le-ltb, eq-eqb, ne-eqb, eqb-false}
-use lib.ListN.{length, getD, take, length-append, length-map, length-replicate, drop, replicate, take-append-drop}
-use lib.ListN.{getD-replicate}
+use lib.ListN.{length, getD, take, length-append, length-map, length-replicate, drop, replicate, take-append-drop, getD-replicate}
 use lib.Seq.{take-all, drop-length}
 use Rattle.log.specs.declared.Record.{Record}
 use Rattle.log.specs.declared.Reading.the-variants.{Good}
@@ -26,16 +25,14 @@ use Rattle.parts.proofs.States.{state-clean}
 use Rattle.model.specs.Lists.{any, keep}
 use Rattle.model.specs.Machine.{Machine, Memory, freshMachine, stateIn, holderIn, dirtyIn}
 use Rattle.model.specs.Readings.{isBad}
-use Rattle.model.specs.Plan.{Put, inHome, inLog, writeHome, setHead, planned, Outcome, written, performed}
-use Rattle.model.specs.Plan.{carriedOut}
+use Rattle.model.specs.Plan.{Put, inHome, inLog, writeHome, setHead, planned, Outcome, written, performed, carriedOut}
 use Rattle.model.specs.Refusals.{unless, wrongLengths}
 use Rattle.model.specs.Recovery.{recoveryWrites, redoWrites, undoWrites}
 use Rattle.model.specs.Step.{recover, planOf, stepped}
 use Rattle.model.specs.Book.{Book}
 use Rattle.model.proofs.Records.{all-records, redos}
 use Rattle.model.proofs.Core.{Kept, kept, width-limits, clean, free, LineOk, AtLine, CoreOf, Safe}
-use Rattle.model.proofs.Performing.{puts-then, puts-home, puts-head, written-both, all-puts, cleared}
-use Rattle.model.proofs.Performing.{performed-all, performed-cut}
+use Rattle.model.proofs.Performing.{puts-then, puts-home, puts-head, written-both, all-puts, cleared, performed-all, performed-cut}
 use Rattle.model.proofs.Plans.{Does, Ends, does-ends}
 use Rattle.model.proofs.LastTo.{or, lastTo, or-first, last-append, stored-word}
 

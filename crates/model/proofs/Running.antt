@@ -10,8 +10,7 @@ use Rattle.log.specs.Stores.{stored}
 use Rattle.log.specs.Region.{slotsOf}
 use Rattle.log.proofs.Stored.{stored-none}
 use Rattle.model.specs.Machine.{Machine, Memory}
-use Rattle.model.specs.Plan.{Put, putsOf, homePart, logPart, Plan, refused, planned, Outcome}
-use Rattle.model.specs.Plan.{written, plannedPuts, carriedOut}
+use Rattle.model.specs.Plan.{Put, putsOf, homePart, logPart, Plan, refused, planned, Outcome, written, plannedPuts, carriedOut}
 use Rattle.model.specs.Step.{Step, recover, planOf, taken, stepped, putsMade}
 use Rattle.model.specs.Run.{Timed, World, outcome, after, HomeCommitted, Faithful, ran, answersOf, storesOf}
 use Rattle.model.proofs.Performing.{performed-all, performed-cut}

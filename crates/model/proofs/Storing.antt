@@ -21,8 +21,7 @@ use Rattle.parts.specs.Lines.{nobody}
 use Rattle.parts.specs.States.{Clean, Dirty, URLog, ULog, stateAt}
 use Rattle.parts.specs.Entries.{redoAs}
 use Rattle.model.specs.Lists.{keep, isEmpty}
-use Rattle.model.specs.Machine.{Machine, Memory, withLines, isOpen, lineOf, stateIn, holderIn, dirtyIn, changed}
-use Rattle.model.specs.Machine.{marked, allLogged}
+use Rattle.model.specs.Machine.{Machine, Memory, withLines, isOpen, lineOf, stateIn, holderIn, dirtyIn, changed, marked, allLogged}
 use Rattle.model.specs.Consistent.{entriesOf}
 use Rattle.model.specs.Steps.{undoRedoRecord, undosLogged, storeLogs, storedAs, storeNext, heldByAnother}
 use Rattle.model.specs.Recovery.{redoWrites, undoWrites}
@@ -34,8 +33,7 @@ use Rattle.model.proofs.Records.{redos, Own, own-free}
 use Rattle.model.proofs.Lines.{line-changed, changed-line, length-changed, every-changed}
 use Rattle.model.proofs.Lines.{state-marked, holder-marked, dirty-marked, length-marked, state-logged, holder-logged, dirty-logged}
 use Rattle.model.proofs.Entries.{entries-append, discarded-own, discarded-other, length-discarded}
-use Rattle.model.proofs.Entries.{every-discarded, entries-amended, entries-amended-own, length-amended}
-use Rattle.model.proofs.Entries.{every-amended}
+use Rattle.model.proofs.Entries.{every-discarded, entries-amended, entries-amended-own, length-amended, every-amended}
 use Rattle.model.proofs.Core.{Says, recent, says, Newest, State, Holding, Word, EntryOk, LineOk, At, AtLine}
 use Rattle.model.proofs.Core.{Core, CoreOf, Appends, crash-all, shape-lines, shape-words}
 use Rattle.model.proofs.Logging.{lines-marked, undos-step}

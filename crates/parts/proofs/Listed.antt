@@ -4,8 +4,7 @@ use mathlib.Core.Path.{_≡_, refl, sym, ap, ap₂, _∙_}
 use mathlib.Core.List.{List, [], _∷_, _++_}
 use native.Mathlib.Decide.{decLt, ℕ-discrete}
 use native.Mathlib.Omega.{arith}
-use lib.ListN.{length, getD, set, replicate, length-append, List·getD-append}
-use lib.ListN.{length-set, length-replicate, getD-replicate}
+use lib.ListN.{length, getD, set, replicate, length-append, List·getD-append, length-set, length-replicate, getD-replicate}
 use lib.Seq.{getD-at, ext-getD, getD-set-same, getD-set-other}
 use Rattle.parts.specs.Listed.{listed}
 

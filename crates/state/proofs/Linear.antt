@@ -28,8 +28,7 @@ use Rattle.model.proofs.Fit.{Clauses, clauses, all-every}
 use Rattle.buffers.specs.Waiting.{entryOf}
 use Rattle.state.specs.declared.Counts.{Counts}
 use Rattle.state.specs.StateOf.{linesLent, entriesLent, stateOf}
-use Rattle.state.specs.Linear.{inLimits, lineSound, waitsFor, eachWaits, allMarked}
-use Rattle.state.specs.Linear.{lineWithoutDirty, undosWait, redosWait, countsOf, linear}
+use Rattle.state.specs.Linear.{inLimits, lineSound, waitsFor, eachWaits, allMarked, lineWithoutDirty, undosWait, redosWait, countsOf, linear}
 use Rattle.state.proofs.NoneDirty.{none-dirty, none-dirty-test}
 
 -- ---- tests

@@ -170,10 +170,6 @@ module _ (s : Machine) (i : ℕ) (below : i < s .words / 8) where
         ∙ ap (λ (k : ℕ). withTail (s .tail + k) (withLines lines (withRedo redos (view s))))
         (sym (length-oldest redoRecord count (s .redos .len) (redoAt (s .redos)) within))
 
--- a buffer's length is the number of the entries that wait in it
-pub few-wait : (b : RedoBuffer) → length (redosWaiting b) ≤ 32 → b .len ≤ 32
-few-wait b h = rw length-listed at h
-
 module _ (i : ℕ) (s : Machine) (mem : Memory) where
   -- there are as many records as entries lack places
   pub evict-size : (count : ℕ) → count ≡ lacking (view s) mem i → count ≤ s .redos .len → length (evictRecords (view s) mem i) ≡ count

@@ -168,8 +168,8 @@ pub(crate) fn stored<'a>(
     requires { ⌜ TakenOut (now holders) (now states) state ⌝ }
     requires { ⌜ numberOf (commonRows (view state) (memory (now home) (now working) (now log))) ≡ 0 ⌝ }
     ensures { λ (r : Outcome). ⌜ shown r (now (home .entry)) (now (working .exit)) (now (log .exit))
-        ≡ stepped (store (target .thread) (target .word) (target .value)) supply (view state) (memory (now (home .entry)) (now (working .entry))
-        (now (log .entry))) ⌝ }
+        ≡ stepped (store (target .thread) (target .word) (target .value)) supply (view state)
+        (memory (now (home .entry)) (now (working .entry)) (now (log .entry))) ⌝ }
     ensures { λ (r : Outcome). ⌜ HandedBack state r ⌝ }
 {
     let thread = target.thread;

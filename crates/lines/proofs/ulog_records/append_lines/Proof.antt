@@ -5,7 +5,6 @@ use mathlib.Core.List.{List, [], map-append}
 use mathlib.Core.Path.{_≡_}
 use mathlib.Core.Logic.{⊎-elim}
 use native.Mathlib.Omega.{arith}
-use borrow.Author.Needs.{needs}
 use lib.ListN.{getD, length-map}
 use Rattle.log.specs.declared.Record.the-variants.{Redo}
 use Rattle.lines.specs.declared.Lines.{Lines}

@@ -17,7 +17,8 @@ use Rattle.steps.proofs.Outcome.{common-fit, refused-way}
 use Rattle.steps.proofs.Appending.{appended-of, append-cut}
 use Rattle.steps.proofs.LineRows.{LineFit}
 use Rattle.steps.proofs.LoggingOldest.{WholeRedos}
-use Rattle.steps.proofs.Eviction.{few-wait, held-thread, lacking-by, entries-added, entries-none, evict-number, evict-fit}
+use Rattle.steps.proofs.StoreParts.{redos-length}
+use Rattle.steps.proofs.Eviction.{held-thread, lacking-by, entries-added, entries-none, evict-number, evict-fit}
 use Rattle.steps.proofs.Eviction.{evict-size, evict-appends, evict-done}
 use borrow.Author.Needs.{needs}
 use Rattle.steps.proofs.evicting.evicted.Statement.{statement}
@@ -37,7 +38,7 @@ whole-redos : (c : tie.Start) → WholeRedos (c .args .t1 .redos)
 whole-redos c = search needs
 
 few : (c : tie.Start) → c .args .t1 .redos .len ≤ 32
-few c = few-wait (c .args .t1 .redos) (fits c .clauses .redoSize)
+few c = omega (arith, redos-length (c .args .t1 .redos), fits c .clauses .redoSize)
 
 -- where the step began, and where its count was taken
 abbrev start : tie.After-lacking → tie.Start

@@ -1,6 +1,6 @@
 -- Where nothing is appended: more entries than a buffer has places for, and numbers that no record has. And what is appended elsewhere.
 use Prim.Native.Nat.{ℕ, _≤_, _<_}
-use mathlib.Core.Path.{_≡_, sym}
+use mathlib.Core.Path.{_≡_}
 use mathlib.Core.Bool.{true, false, _||_}
 use mathlib.Core.List.{List, [], map}
 use native.Mathlib.Omega.{arith}

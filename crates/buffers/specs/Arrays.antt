@@ -3,7 +3,7 @@ use Prim.Native.Nat.{ℕ, zero, suc, _+_, _-_, min}
 use mathlib.Core.List.{List, [], _∷_}
 use lib.ListN.{length, getD, set}
 
--- the n elements that stand `gone` places behind place `at` and the places after it moved there, one after the other
+-- n elements, from place `at` + `gone` on, moved down by `gone` places, one after the other
 unfoldable pub movedDown : ℕ → ℕ → ℕ → List ℕ → List ℕ
 movedDown at gone zero xs = xs
 movedDown at gone (suc n) xs = set (movedDown at gone n xs) (at + n) (getD (movedDown at gone n xs) (at + n + gone) 0)

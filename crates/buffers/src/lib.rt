@@ -1,6 +1,5 @@
-// The two log buffers, and what is done to them: entries taken out, found, added and logged. Each function takes every
-// input. What is logged is appended under the supply: as many stores are made as it allows, and what is left is handed
-// back.
+// The two log buffers, and what is done to them: entries taken out, found, added and logged. What is logged is appended
+// under the supply, and what is left of it is handed back.
 
 mod adding;
 mod filling;

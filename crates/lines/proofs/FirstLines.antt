@@ -7,7 +7,7 @@ use lib.ListN.{length, set, replicate, getD-replicate}
 use lib.Seq.{getD-set-same, getD-set-other}
 use Rattle.parts.specs.declared.Line.{Line}
 use Rattle.lines.specs.declared.Lines.{Lines}
-use Rattle.parts.specs.Lines.{nobody, freeLine}
+use Rattle.parts.specs.FreeLine.{nobody, freeLine}
 use Rattle.lines.specs.Lines.{lineAt, firstLines, freeLines, putLine}
 use Rattle.parts.proofs.Listed.{set-listed, replicate-listed, listed-ext}
 

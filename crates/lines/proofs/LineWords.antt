@@ -1,7 +1,7 @@
--- The eight words of a line: those that pass a test, by the line's states.
+-- The eight words of a line: those that pass a test, and whether any does, by the line's states.
 use Prim.Native.Nat.{ℕ, zero, suc, _+_, _*_, _/_, _%_, _<_}
 use mathlib.Core.Path.{_≡_, refl, sym, ap, ap₂, _∙_}
-use mathlib.Core.Bool.{Bool, true, false, cond}
+use mathlib.Core.Bool.{Bool, true, false, cond, _||_}
 use mathlib.Core.List.{List, [], _∷_, _++_, map, map-append}
 use native.Mathlib.Omega.{arith}
 use lib.Dec.{eqb}
@@ -11,10 +11,11 @@ use Rattle.lines.specs.declared.Lines.{Lines}
 use Rattle.parts.specs.Listed.{listed}
 use Rattle.lines.specs.Lines.{lineAt, firstLines}
 use Rattle.parts.specs.States.{stateAt}
-use Rattle.model.specs.Lists.{keep, upTo}
+use Rattle.model.specs.Lists.{keep, any, upTo}
 use Rattle.model.specs.Machine.{stateIn, wordsOf}
 use Rattle.model.proofs.Entries.{keep-append}
 use Rattle.model.proofs.FirstNumbers.{keep-next}
+use Rattle.model.proofs.Records.{any-append}
 use Rattle.lines.proofs.LinesInUse.{line-in-use}
 
 -- how many pass a test, with one word more
@@ -25,7 +26,7 @@ count-next f n t e =
     ∙ ap (λ (k : ℕ). length (keep f (upTo n)) + k)
     (elim t as (λ (s : Bool). length (cond s (n ∷ []) []) ≡ cond s 1 0) [ true ↦ refl | false ↦ refl ])
 
--- a test of numbers listed, as one of their places
+-- a test of numbers listed, as one of their places: those that pass it, and whether any does
 keep-listed : (f h : ℕ → Bool) (g : ℕ → ℕ) (n : ℕ) → ((j : ℕ) → j < n → f (g j) ≡ h j) → keep f (listed n g) ≡ map g (keep h (upTo n))
 unfolding listed keep
 keep-listed f h g zero same = refl
@@ -35,6 +36,14 @@ keep-listed f h g (suc n) same =
     ∙ ap (λ (xs : List ℕ). map g (keep h (upTo n)) ++ xs)
     (elim (h n) as (λ (t : Bool). cond t (g n ∷ []) [] ≡ map g (cond t (n ∷ []) [])) [ true ↦ refl | false ↦ refl ])
     ∙ sym (ap (map g) (keep-append h (upTo n) (n ∷ [])) ∙ map-append g (keep h (upTo n)) (keep h (n ∷ [])))
+
+any-listed : (f h : ℕ → Bool) (g : ℕ → ℕ) (n : ℕ) → ((j : ℕ) → j < n → f (g j) ≡ h j) → any f (listed n g) ≡ any h (upTo n)
+unfolding listed any
+any-listed f h g zero same = refl
+any-listed f h g (suc n) same =
+    any-append f (listed n g) (g n ∷ [])
+    ∙ ap₂ (λ (s t : Bool). s || (t || false)) (any-listed f h g n (λ j b. same j (omega arith))) (same n (omega arith))
+    ∙ sym (any-append h (upTo n) (n ∷ []))
 
 module _ (n : ℕ) (ls : Lines) (i : ℕ) (below : i < n) where
   -- the state of a word of a line in use
@@ -50,3 +59,8 @@ module _ (n : ℕ) (ls : Lines) (i : ℕ) (below : i < n) where
       → keep (λ w. eqb (stateIn (firstLines n ls) w) s) (wordsOf i)
       ≡ map (λ j. 8 * i + j) (keep (λ j. eqb (stateAt (lineAt ls i .states) j) s) (upTo 8))
   keep-below s = keep-listed _ _ (λ j. 8 * i + j) 8 (λ j h. ap (λ (t : ℕ). eqb t s) (state-below j h))
+
+  -- whether one of them is
+  pub any-below : (s : ℕ)
+      → any (λ w. eqb (stateIn (firstLines n ls) w) s) (wordsOf i) ≡ any (λ j. eqb (stateAt (lineAt ls i .states) j) s) (upTo 8)
+  any-below s = any-listed _ _ (λ j. 8 * i + j) 8 (λ j h. ap (λ (t : ℕ). eqb t s) (state-below j h))

@@ -8,7 +8,7 @@ use lib.Seq.{set-out}
 use Rattle.parts.specs.declared.Line.{Line}
 use Rattle.lines.specs.declared.Lines.{Lines}
 use Rattle.lines.specs.Lines.{lineAt, firstLines, putLine}
-use Rattle.parts.specs.Lines.{freeLine}
+use Rattle.parts.specs.FreeLine.{freeLine}
 use Rattle.parts.proofs.Listed.{length-listed, getD-listed}
 use Rattle.lines.proofs.FirstLines.{WholeLines, first-put}
 use Rattle.model.specs.Machine.{lineOf, changed}
@@ -17,13 +17,14 @@ use Rattle.model.specs.Machine.{lineOf, changed}
 pub line-in-use : (n : ℕ) (ls : Lines) (i : ℕ) → i < n → lineAt ls i ≡ lineOf (firstLines n ls) i
 line-in-use n ls i h = sym (getD-listed n (lineAt ls) i freeLine h)
 
--- a line changed, be it in use or not
-pub first-changed : (f : Line → Line) (n : ℕ) (ls : Lines) (i : ℕ) → WholeLines ls → n ≤ 64
-    → firstLines n (putLine ls i (f (lineAt ls i))) ≡ changed f i (firstLines n ls)
+-- a line changed, be it in use or not; `new` are the lines with it
+pub first-changed : (f : Line → Line) (n : ℕ) (ls new : Lines) (i : ℕ) → new ≡ putLine ls i (f (lineAt ls i)) → WholeLines ls → n ≤ 64
+    → firstLines n new ≡ changed f i (firstLines n ls)
 unfolding changed
-first-changed f n ls i whole h =
+first-changed f n ls new i put whole h =
     let l : length (firstLines n ls) ≡ n = length-listed n (lineAt ls) in
-    first-put n ls i (f (lineAt ls i)) whole h
+    ap (firstLines n) put
+    ∙ first-put n ls i (f (lineAt ls i)) whole h
     ∙ elim (decLt i n) [
       | yes p ↦ ap (λ (x : Line). set (firstLines n ls) i (f x)) (line-in-use n ls i p)
       | no q ↦

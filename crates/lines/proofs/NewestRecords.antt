@@ -1,6 +1,6 @@
 -- The redo records of the ULog words in a thread's lines, appended; of sizes that no machine has, nothing is.
 use Prim.Native.Nat.{ℕ, _*_, _/_, _%_, _≤_, _<_}
-use mathlib.Core.Path.{_≡_, sym}
+use mathlib.Core.Path.{_≡_}
 use mathlib.Core.Bool.{Bool, true, false, _||_, not}
 use mathlib.Core.List.{List, []}
 use native.Mathlib.Decide.{decLt}

@@ -11,7 +11,7 @@ use lib.Seq.{getD-set-same, getD-set-other}
 use Rattle.parts.specs.declared.Line.{Line}
 use Rattle.lines.specs.declared.Lines.{Lines}
 use Rattle.parts.specs.Listed.{listed}
-use Rattle.parts.specs.Lines.{nobody}
+use Rattle.parts.specs.FreeLine.{nobody}
 use Rattle.lines.specs.Lines.{firstLines, lineAt}
 use Rattle.parts.proofs.Listed.{listed-ext}
 use Rattle.lines.proofs.FirstLines.{WholeLines}

@@ -1,11 +1,11 @@
 -- The state of a word replaced.
 use Prim.Native.Nat.{ℕ, _/_, _%_, _≤_}
-use mathlib.Core.Path.{_≡_, sym, ap, _∙_}
+use mathlib.Core.Path.{_≡_}
 use mathlib.Core.List.{List}
 use lib.ListN.{getD, set}
 use lib.Seq.{set-getD}
 use Rattle.lines.specs.declared.Lines.{Lines}
-use Rattle.lines.specs.Lines.{lineAt, firstLines, putLine}
+use Rattle.lines.specs.Lines.{firstLines}
 use Rattle.parts.specs.States.{withState}
 use Rattle.lines.proofs.FirstLines.{WholeLines}
 use Rattle.model.specs.Machine.{statesAs, marked}
@@ -19,14 +19,10 @@ withStates ss ls = record { holders = ls .holders; dirty = ls .dirty; states = s
 abbrev pub replaced : List ℕ → ℕ → ℕ → List ℕ
 replaced ss w s = set ss (w / 8) (withState (getD ss (w / 8) 0) (w % 8) s)
 
--- which is to put the word's line anew
-pub state-put : (ls : Lines) (i s : ℕ) → putLine ls i (statesAs s (lineAt ls i)) ≡ withStates (set (ls .states) i s) ls
-state-put ls i s = simp set-getD
-
 -- one state replaced
 pub first-marked : (n : ℕ) (ls : Lines) (w s : ℕ) → WholeLines ls → n ≤ 64
     → firstLines n (withStates (replaced (ls .states) w s) ls) ≡ marked s w (firstLines n ls)
 unfolding marked
 first-marked n ls w s whole h =
-    ap (firstLines n) (sym (state-put ls (w / 8) (withState (getD (ls .states) (w / 8) 0) (w % 8) s)))
-    ∙ first-changed (λ line. statesAs (withState (line .states) (w % 8) s) line) n ls (w / 8) whole h
+    first-changed (λ line. statesAs (withState (line .states) (w % 8) s) line) n ls (withStates (replaced (ls .states) w s) ls) (w / 8)
+    (simp set-getD) whole h

@@ -5,7 +5,7 @@ use mathlib.Core.List.{List, []}
 use lib.Dec.{eqb, leb}
 use lib.ListN.{length, getD, set}
 use Rattle.log.specs.Stores.{Store}
-use Rattle.parts.specs.Lines.{nobody}
+use Rattle.parts.specs.FreeLine.{nobody}
 use Rattle.parts.specs.States.{stateAt, ULog}
 use Rattle.model.specs.Lists.{keep, upTo}
 use Rattle.model.specs.Steps.{lineWrites}

@@ -1,6 +1,5 @@
 // The lines, and what is done to them: the two-bit states of their words read and replaced, Dirty words looked for,
-// ULog words counted and logged, lines stored home and released. Each function takes every input; what is no line or
-// word changes nothing.
+// ULog words counted and logged, lines stored home and released. What is no line or word changes nothing.
 ghost use mathlib.Core.Path.{_≡_};
 ghost use Rattle.lines.specs.Lines.{freeLines};
 
@@ -28,6 +27,9 @@ pub use word_states::mark;
 pub use word_states::state_at;
 pub use word_states::with_state;
 
+// The holder of a line that nobody holds: "255 for none".
+pub const NOBODY: u8 = 255;
+
 // Up to 64 lines, by their fields.
 pub struct Lines {
     pub holders: [u8; 64],
@@ -41,7 +43,7 @@ impl Lines {
         ensures { λ (r : Lines). ⌜ r ≡ freeLines ⌝ }
     {
         Lines {
-            holders: [255; 64],
+            holders: [NOBODY; 64],
             dirty: [false; 64],
             states: [0; 64],
         }

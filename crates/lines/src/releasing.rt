@@ -3,15 +3,16 @@ ghost use mathlib.Core.Path.{_≡_};
 ghost use mathlib.Core.Bool.{cond};
 ghost use Prim.Native.Nat.{min};
 ghost use lib.Dec.{eqb};
-ghost use Rattle.parts.specs.Lines.{nobody};
+ghost use Rattle.parts.specs.FreeLine.{nobody};
 ghost use Rattle.lines.specs.Walks.{replacedTo, freedHolder, freedStates};
+use crate::NOBODY;
 use crate::numbers::least;
 
 // The holder of a line after the thread's commit.
 fn free_holder(holder: u8, thread: u8) -> u8
     ensures { λ r. ⌜ r ≡ cond (eqb holder thread) nobody holder ⌝ }
 {
-    if holder == thread { 255 } else { holder }
+    if holder == thread { NOBODY } else { holder }
 }
 
 // The states of its words.

@@ -7,7 +7,7 @@ use Rattle.state.specs.declared.Outcome.{Outcome}
 use Rattle.state.specs.HandedBack as inner
 use Rattle.machine.specs.declared.State.{State}
 use Rattle.machine.specs.declared.Answer.{Answer}
-use Rattle.machine.specs.View.{lostState, takenState, HandedBack}
+use Rattle.machine.specs.Answers.{lostState, takenState, HandedBack}
 
 abbrev pub answerOf : Outcome → Answer
 answerOf r = record { answer = r .answer; left = r .left; state = record { machine = r .state } }

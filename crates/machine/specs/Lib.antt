@@ -1,2 +1,2 @@
 -- What the machine's state and answers mean.
-pub mod View
+pub mod Answers

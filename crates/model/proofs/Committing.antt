@@ -20,7 +20,7 @@ use Rattle.log.specs.Stores.{Store}
 use Rattle.log.proofs.Holding.{every-append}
 use Rattle.parts.specs.declared.Entry.{Entry}
 use Rattle.parts.specs.declared.Line.{Line}
-use Rattle.parts.specs.Lines.{nobody}
+use Rattle.parts.specs.FreeLine.{nobody}
 use Rattle.parts.specs.States.{URLog, ULog}
 use Rattle.parts.proofs.States.{state-clean}
 use Rattle.model.specs.Lists.{keep, upTo, isEmpty}

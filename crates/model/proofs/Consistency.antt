@@ -13,7 +13,7 @@ use Rattle.log.specs.Holding.{Every}
 use Rattle.log.specs.Region.{numbers, headOf}
 use Rattle.parts.specs.declared.Entry.{Entry}
 use Rattle.parts.specs.declared.Line.{Line}
-use Rattle.parts.specs.Lines.{nobody}
+use Rattle.parts.specs.FreeLine.{nobody}
 use Rattle.parts.specs.States.{Clean, Dirty}
 use Rattle.model.specs.Lists.{keep, all, upTo}
 use Rattle.model.specs.Machine.{Machine, stateIn, holderIn}

@@ -13,7 +13,7 @@ use Rattle.log.specs.Holding.{Holds, Every, Valid}
 use Rattle.log.specs.Stores.{Store}
 use Rattle.parts.specs.declared.Entry.{Entry}
 use Rattle.parts.specs.declared.Line.{Line}
-use Rattle.parts.specs.Lines.{nobody}
+use Rattle.parts.specs.FreeLine.{nobody}
 use Rattle.parts.specs.States.{Clean, Dirty, URLog, ULog, stateAt}
 use Rattle.model.specs.Machine.{Machine, Memory, stateIn, holderIn, dirtyIn}
 use Rattle.model.specs.Consistent.{isWidth, entriesOf}

@@ -17,7 +17,7 @@ use Rattle.log.proofs.Holding.{every-at}
 use Rattle.parts.specs.declared.Entry.{Entry}
 use Rattle.parts.specs.declared.Line.{Line}
 use Rattle.parts.specs.declared.Verdict.the-variants.{Open, Needed, Spare}
-use Rattle.parts.specs.Lines.{freeLine}
+use Rattle.parts.specs.FreeLine.{freeLine}
 use Rattle.model.specs.Machine.{Machine, isOpen, lineOf, holderIn, dirtyIn}
 use Rattle.model.specs.Readings.{closed}
 use Rattle.model.specs.Verdict.{judged, verdictOn}

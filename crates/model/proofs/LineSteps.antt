@@ -17,7 +17,7 @@ use Rattle.log.proofs.Stored.{length-stored}
 use Rattle.log.proofs.Holding.{every-at, every-append}
 use Rattle.parts.specs.declared.Entry.{Entry}
 use Rattle.parts.specs.declared.Line.{Line}
-use Rattle.parts.specs.Lines.{freeLine}
+use Rattle.parts.specs.FreeLine.{freeLine}
 use Rattle.parts.specs.States.{Dirty, stateAt, Clean, ULog}
 use Rattle.parts.proofs.States.{state-clean}
 use Rattle.parts.proofs.Listed.{length-listed, getD-listed}

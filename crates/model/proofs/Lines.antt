@@ -12,7 +12,7 @@ use lib.Seq.{getD-set-same, getD-set-other}
 use Rattle.log.specs.Holding.{Every}
 use Rattle.parts.specs.declared.Entry.{Entry}
 use Rattle.parts.specs.declared.Line.{Line}
-use Rattle.parts.specs.Lines.{nobody, freeLine}
+use Rattle.parts.specs.FreeLine.{nobody, freeLine}
 use Rattle.parts.specs.States.{stateAt, withState, URLog}
 use Rattle.parts.proofs.States.{state-same, state-other}
 use Rattle.model.specs.Lists.{keep, isEmpty}

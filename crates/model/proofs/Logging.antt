@@ -19,7 +19,7 @@ use Rattle.log.proofs.Holding.{every-append}
 use Rattle.parts.specs.declared.Entry.{Entry}
 use Rattle.parts.specs.declared.Line.{Line}
 use Rattle.parts.specs.States.{URLog, withState, Clean, ULog}
-use Rattle.parts.specs.Lines.{nobody}
+use Rattle.parts.specs.FreeLine.{nobody}
 use Rattle.parts.proofs.States.{state-fits}
 use Rattle.model.specs.Machine.{Machine, holderIn, dirtyIn, statesAs, marked, wordsMarked, allLogged}
 use Rattle.model.specs.Lists.{keep, any, isEmpty}

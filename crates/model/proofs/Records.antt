@@ -14,7 +14,7 @@ use Rattle.log.specs.declared.Reading.the-variants.{Good}
 use Rattle.log.specs.Stores.{Store}
 use Rattle.log.specs.Layout.{threadOf}
 use Rattle.log.specs.Holding.{Every, Valid}
-use Rattle.parts.specs.Lines.{nobody}
+use Rattle.parts.specs.FreeLine.{nobody}
 use Rattle.model.specs.Lists.{any}
 use Rattle.model.specs.Readings.{isCommit, closed, records}
 use Rattle.model.specs.Recovery.{redoOfClosed, undoOfOpen, redoWrites, undoWrites}

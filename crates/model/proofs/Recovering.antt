@@ -20,7 +20,7 @@ use Rattle.log.proofs.Stored.{stored-none, length-stored}
 use Rattle.log.proofs.Holding.{slots-of, size-of-head, deleted}
 use Rattle.log.proofs.Readings.{tail-found, read-all}
 use Rattle.parts.specs.declared.Line.{Line}
-use Rattle.parts.specs.Lines.{freeLine}
+use Rattle.parts.specs.FreeLine.{freeLine}
 use Rattle.parts.proofs.States.{state-clean}
 use Rattle.model.specs.Lists.{any, keep}
 use Rattle.model.specs.Machine.{Machine, Memory, freshMachine, stateIn, holderIn, dirtyIn}

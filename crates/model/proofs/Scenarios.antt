@@ -1,6 +1,5 @@
 -- P1 to P11 of document 01 hold of the definitions: one claim over the table, computed by the checker.
-use mathlib.Core.Path.{_≡_, refl}
-use mathlib.Core.Bool.{true}
+use mathlib.Core.Path.{refl}
 use Rattle.log.specs.Stores.{stored}
 use Rattle.log.specs.Layout.{slotStores, decoded}
 use Rattle.log.specs.Region.{slotsFor, recordStores, headStores, isWritten, readBack, searched, readFrom}
@@ -21,12 +20,12 @@ use Rattle.model.specs.Recovery.{redoWrites, undoWrites}
 use Rattle.model.specs.Step.{planOf, stepped}
 use Rattle.model.specs.Book.{settled, entered, noted}
 use Rattle.model.specs.Run.{after}
-use Rattle.model.specs.Scenarios.{scenarios, linesPass, end, sameWords, passes}
+use Rattle.model.specs.Scenarios.{ScenariosClaim, allExpected, end, sameWords, passes}
 
-pub scenarios-pass : all passes scenarios ≡ true
+pub scenarios-pass : ScenariosClaim
 unfolding stored slotStores decoded slotsFor recordStores headStores isWritten readBack searched readFrom listed stateAt withState
     discarded amended keep all any stateIn holderIn dirtyIn changed marked wordsMarked allLogged lineLimits entryLimits withinLimits dirtyWait
     redoClean entriesHeld holdersOpen freeClean consistent consistentWith putsOf homePart logPart written performed carriedOut
     records judged verdict unless wrongLengths wrongSize isPending noRoom storeLogs storedAs storeNext evicted newestWords newestRedos
-    prepareRecords prepareNext released commitRecords redoWrites undoWrites planOf stepped settled entered noted after linesPass end sameWords passes
+    prepareRecords prepareNext released commitRecords redoWrites undoWrites planOf stepped settled entered noted after allExpected end sameWords passes
 scenarios-pass = refl

@@ -17,7 +17,7 @@ use Rattle.log.specs.Holding.{Every}
 use Rattle.log.proofs.Holding.{every-append}
 use Rattle.parts.specs.declared.Entry.{Entry}
 use Rattle.parts.specs.declared.Line.{Line}
-use Rattle.parts.specs.Lines.{nobody}
+use Rattle.parts.specs.FreeLine.{nobody}
 use Rattle.parts.specs.States.{Clean, Dirty, URLog, ULog, stateAt}
 use Rattle.parts.specs.Entries.{redoAs}
 use Rattle.model.specs.Lists.{keep, isEmpty}

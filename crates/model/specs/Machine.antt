@@ -5,7 +5,7 @@ use mathlib.Core.List.{List, [], _∷_}
 use lib.ListN.{getD, set, replicate}
 use Rattle.parts.specs.declared.Entry.{Entry}
 use Rattle.parts.specs.declared.Line.{Line}
-use Rattle.parts.specs.Lines.{freeLine}
+use Rattle.parts.specs.FreeLine.{freeLine}
 use Rattle.parts.specs.States.{stateAt, withState, URLog}
 use Rattle.parts.specs.Listed.{listed}
 

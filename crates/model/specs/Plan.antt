@@ -62,9 +62,7 @@ unfoldable pub written : Memory → List Put → List ℕ → Memory
 written mem ps working =
     record { home = stored (mem .home) (homePart ps); working = working; log = stored (mem .log) (logPart ps) }
 
--- "If it is longer than the count c, its first c are made, the answer is 255 (cut), the count left is 0, all working
--- words become 0, and the returned state is dark. Otherwise all are made", the answer is the plan's, "and c less the
--- number of stores is left."
+-- the stores made under a supply: the first c, and cut, if there are more than c; else all, and the plan's answer
 unfoldable pub performed : ℕ → ℕ → Memory → List Put → Machine → List ℕ → Outcome
 performed c answer mem ps next working =
     cond (leb (length ps) c)

@@ -1,7 +1,7 @@
--- Document 01, "Benches to try": P1 to P11 as a table of worked scenarios, each with all that the paper says of it;
--- after them a scenario for each entry of "Plausible, and wrong" and for the edges of the supply, the free slots and a
--- delete.
+-- Document 01, "Benches to try": P1 to P11 as a table, each with all that the paper says of it; then "Plausible, and
+-- wrong", and edges of the supply, the free slots and a delete.
 use Prim.Native.Nat.{ℕ, _+_, _-_, _*_, _^_}
+use mathlib.Core.Path.{_≡_}
 use mathlib.Core.Bool.{Bool, true, false, _&&_}
 use mathlib.Core.List.{List, [], _∷_, _++_}
 use lib.Dec.{eqb}
@@ -14,7 +14,7 @@ use Rattle.model.specs.Book.{openedBook}
 use Rattle.model.specs.Run.{World, Timed, outcome, after}
 
 -- a step under a supply, the answer that is expected, and the number of stores made
-pub record Line : Type 0 where
+pub record Expected : Type 0 where
   pub timed : Timed
   pub answer : ℕ
   pub stores : ℕ
@@ -23,7 +23,7 @@ pub record Line : Type 0 where
 -- and of working; their other seven words are 0
 pub record Scenario : Type 0 where
   pub head : ℕ
-  pub steps : List Line
+  pub steps : List Expected
   pub log : List Store
   pub home : ℕ
   pub working : ℕ
@@ -32,11 +32,11 @@ pub record Scenario : Type 0 where
 abbrev pub ample : ℕ
 ample = 2 ^ 64 - 1
 
-abbrev pub under : ℕ → Step → ℕ → ℕ → Line
+abbrev pub under : ℕ → Step → ℕ → ℕ → Expected
 under c s answer stores = record { timed = record { step = s; supply = c }; answer = answer; stores = stores }
 
-abbrev pub line : Step → ℕ → ℕ → Line
-line = under ample
+abbrev pub expect : Step → ℕ → ℕ → Expected
+expect = under ample
 
 -- "W = 8, L = 8, home 0, fresh log", but for the head
 abbrev pub startOf : Scenario → World
@@ -47,14 +47,14 @@ startOf s =
       book = openedBook (replicate 8 0);
     }
 
-unfoldable pub linesPass : World → List Line → Bool
-linesPass w [] = true
-linesPass w (x ∷ xs) =
+unfoldable pub allExpected : World → List Expected → Bool
+allExpected w [] = true
+allExpected w (x ∷ xs) =
     (eqb (outcome w (x .timed) .answer) (x .answer) &&
     eqb (x .timed .supply - outcome w (x .timed) .left) (x .stores)) &&
-    linesPass (after w (x .timed)) xs
+    allExpected (after w (x .timed)) xs
 
-unfoldable pub end : World → List Line → World
+unfoldable pub end : World → List Expected → World
 end w [] = w
 end w (x ∷ xs) = end (after w (x .timed)) xs
 
@@ -68,7 +68,7 @@ sameWords (x ∷ xs) (y ∷ ys) = eqb x y && sameWords xs ys
 unfoldable pub passes : Scenario → Bool
 passes s =
     let last = end (startOf s) (s .steps) .memory in
-    linesPass (startOf s) (s .steps) &&
+    allExpected (startOf s) (s .steps) &&
     (all (λ x. eqb (getD (last .log) (x .at) 0) (x .value)) (s .log) &&
     (sameWords (last .home) (s .home ∷ replicate 7 0) && sameWords (last .working) (s .working ∷ replicate 7 0)))
 
@@ -82,14 +82,14 @@ slotIs s u r h =
     ∷ []
 
 -- "recovered"
-abbrev pub recovered : Line
-recovered = line recover 0 1
+abbrev pub recovered : Expected
+recovered = expect recover 0 1
 
 -- one transaction of thread 0 that stores v into word 0
-abbrev pub transaction : ℕ → List Line
-transaction v = line (begin 0) 0 0 ∷ line (store 0 0 v) 0 0 ∷ line (commit 0) 0 6 ∷ []
+abbrev pub transaction : ℕ → List Expected
+transaction v = expect (begin 0) 0 0 ∷ expect (store 0 0 v) 0 0 ∷ expect (commit 0) 0 6 ∷ []
 
-abbrev pub fresh : List Line → List Store → ℕ → ℕ → Scenario
+abbrev pub fresh : List Expected → List Store → ℕ → ℕ → Scenario
 fresh steps log home working = record { head = 0; steps = recovered ∷ steps; log = log; home = home; working = working }
 
 -- "P1: recover makes 1 store; with count 0 it is cut."
@@ -104,107 +104,104 @@ p1 =
 abbrev pub p2 : List Scenario
 p2 =
     fresh (transaction 7) (slotIs 0 0 7 0x0500000000000000 ++ slotIs 1 0 0 0x0700000000000000) 0 7
-    ∷ fresh (transaction 7 ++ (line recover 0 2 ∷ [])) (headIs 2 ∷ []) 7 7
+    ∷ fresh (transaction 7 ++ (expect recover 0 2 ∷ [])) (headIs 2 ∷ []) 7 7
     ∷ []
 
 -- P2's commit under a supply of c, with its answer and its stores
-abbrev pub commitUnder : ℕ → ℕ → ℕ → List Line
-commitUnder c answer stores = line (begin 0) 0 0 ∷ line (store 0 0 7) 0 0 ∷ under c (commit 0) answer stores ∷ []
+abbrev pub commitUnder : ℕ → ℕ → ℕ → List Expected
+commitUnder c answer stores = expect (begin 0) 0 0 ∷ expect (store 0 0 7) 0 0 ∷ under c (commit 0) answer stores ∷ []
 
 -- "P3: as P2 with count 5 at commit: cut; recover leaves 0, head 1."
 abbrev pub p3 : List Scenario
-p3 = fresh (commitUnder 5 255 5 ++ (line recover 0 2 ∷ [])) (headIs 1 ∷ []) 0 0 ∷ []
+p3 = fresh (commitUnder 5 255 5 ++ (expect recover 0 2 ∷ [])) (headIs 1 ∷ []) 0 0 ∷ []
 
 -- store 7, log undo, store 9
-abbrev pub twoStores : List Line
-twoStores = line (begin 0) 0 0 ∷ line (store 0 0 7) 0 0 ∷ line logUndo 0 3 ∷ line (store 0 0 9) 0 0 ∷ []
+abbrev pub twoStores : List Expected
+twoStores = expect (begin 0) 0 0 ∷ expect (store 0 0 7) 0 0 ∷ expect logUndo 0 3 ∷ expect (store 0 0 9) 0 0 ∷ []
 
 -- "P4: store 7, log undo, store 9, write home, commit (6 stores): recover makes 3 and leaves 9."
 abbrev pub p4 : List Scenario
-p4 = fresh (twoStores ++ (line (writeBack 0) 0 8 ∷ line (commit 0) 0 6 ∷ line recover 0 3 ∷ [])) (headIs 3 ∷ []) 9 9
+p4 = fresh (twoStores ++ (expect (writeBack 0) 0 8 ∷ expect (commit 0) 0 6 ∷ expect recover 0 3 ∷ [])) (headIs 3 ∷ []) 9 9
     ∷ []
 
 -- "P5: P4 without commit: 2 stores, 0."
 abbrev pub p5 : List Scenario
-p5 = fresh (twoStores ++ (line (writeBack 0) 0 8 ∷ line recover 0 2 ∷ [])) (headIs 1 ∷ []) 0 0 ∷ []
+p5 = fresh (twoStores ++ (expect (writeBack 0) 0 8 ∷ expect recover 0 2 ∷ [])) (headIs 1 ∷ []) 0 0 ∷ []
 
 -- "P6: store 7, log undo, store 9, set down, store 11, commit: 3 records in the log, recover leaves 11.
 -- With log undo in place of commit: 0."
 abbrev pub p6 : List Scenario
 p6 =
-    let steps = twoStores ++ (line (evict 0) 0 0 ∷ line (store 0 0 11) 0 0 ∷ []) in
-    fresh (steps ++ (line (commit 0) 0 6 ∷ line recover 0 3 ∷ [])) (headIs 3 ∷ []) 11 11
-    ∷ fresh (steps ++ (line logUndo 0 3 ∷ line recover 0 3 ∷ [])) (headIs 2 ∷ []) 0 0
+    let steps = twoStores ++ (expect (evict 0) 0 0 ∷ expect (store 0 0 11) 0 0 ∷ []) in
+    fresh (steps ++ (expect (commit 0) 0 6 ∷ expect recover 0 3 ∷ [])) (headIs 3 ∷ []) 11 11
+    ∷ fresh (steps ++ (expect logUndo 0 3 ∷ expect recover 0 3 ∷ [])) (headIs 2 ∷ []) 0 0
     ∷ []
 
 -- "P7: store 0; thread 1 begins and stores word 3: 8."
 abbrev pub p7 : List Scenario
-p7 = fresh (line (begin 0) 0 0 ∷ line (store 0 0 0) 0 0 ∷ line (begin 1) 0 0 ∷ line (store 1 3 1) 8 0 ∷ []) [] 0 0 ∷ []
+p7 = fresh (expect (begin 0) 0 0 ∷ expect (store 0 0 0) 0 0 ∷ expect (begin 1) 0 0 ∷ expect (store 1 3 1) 8 0 ∷ []) [] 0 0 ∷ []
 
 -- "P8: store 7, write home: 9."
 abbrev pub p8 : List Scenario
-p8 = fresh (line (begin 0) 0 0 ∷ line (store 0 0 7) 0 0 ∷ line (writeBack 0) 9 0 ∷ []) [] 0 7 ∷ []
+p8 = fresh (expect (begin 0) 0 0 ∷ expect (store 0 0 7) 0 0 ∷ expect (writeBack 0) 9 0 ∷ []) [] 0 7 ∷ []
 
 -- "P9: after P2's commit, delete: 15. After write home: done, done, then 12."
 abbrev pub p9 : List Scenario
 p9 =
     fresh
     (transaction 7 ++
-    (line deleteOldest 15 0
-    ∷ line (writeBack 0) 0 8
-    ∷ line deleteOldest 0 1
-    ∷ line deleteOldest 0 1
-    ∷ line deleteOldest 12 0
+    (expect deleteOldest 15 0
+    ∷ expect (writeBack 0) 0 8
+    ∷ expect deleteOldest 0 1
+    ∷ expect deleteOldest 0 1
+    ∷ expect deleteOldest 12 0
     ∷ []))
     (headIs 2 ∷ [])
     7
     7
     ∷ []
 
-abbrev pub fourTransactions : List Line
+abbrev pub fourTransactions : List Expected
 fourTransactions = transaction 1 ++ (transaction 2 ++ (transaction 3 ++ transaction 4))
 
 -- "P10: storing 1, 2, 3, 4 in four transactions fills the log; a fifth storing 5: commit 10. Write home and two deletes
 -- before the fifth: its headers are 0100000000000000 and 0300000000000000."
 abbrev pub p10 : List Scenario
 p10 =
-    fresh (fourTransactions ++ (line (begin 0) 0 0 ∷ line (store 0 0 5) 0 0 ∷ line (commit 0) 10 0 ∷ [])) (headIs 0
+    fresh (fourTransactions ++ (expect (begin 0) 0 0 ∷ expect (store 0 0 5) 0 0 ∷ expect (commit 0) 10 0 ∷ [])) (headIs 0
     ∷ []) 0 5
     ∷ fresh
     (fourTransactions ++
-    (line (writeBack 0) 0 8 ∷ line deleteOldest 0 1 ∷ line deleteOldest 0 1 ∷ transaction 5))
+    (expect (writeBack 0) 0 8 ∷ expect deleteOldest 0 1 ∷ expect deleteOldest 0 1 ∷ transaction 5))
     (headIs 2 ∷ (slotIs 0 4 5 0x0100000000000000 ++ slotIs 1 0 0 0x0300000000000000))
     4
     5
     ∷ []
 
 -- a scenario with another head at first, of which the log still has it at the end
-abbrev pub headAt : ℕ → List Line → Scenario
+abbrev pub headAt : ℕ → List Expected → Scenario
 headAt n steps = record { head = n; steps = steps; log = headIs n ∷ []; home = 0; working = 0 }
 
 -- "P11: recover with head 2^48 is done; then begin and commit: 11. Head 2^48 + 1: 13."
 abbrev pub p11 : List Scenario
 p11 =
-    headAt (2 ^ 48) (recovered ∷ line (begin 0) 0 0 ∷ line (commit 0) 11 0 ∷ [])
-    ∷ headAt (2 ^ 48 + 1) (line recover 13 0 ∷ [])
+    headAt (2 ^ 48) (recovered ∷ expect (begin 0) 0 0 ∷ expect (commit 0) 11 0 ∷ [])
+    ∷ headAt (2 ^ 48 + 1) (expect recover 13 0 ∷ [])
     ∷ []
 
--- "Plausible, and wrong", an entry each:
--- "P4 with a set down before the write home would give 7";
--- an undo+redo entry whose halves became equal, the log having an older redo;
--- (a store of an equal value is P7, and undoing in log order P6);
--- equal home and working words of a line whose record is needed.
+-- "Plausible, and wrong", but for two entries, which P7 and P6 show: a redo entry discarded by a write home, an
+-- undo+redo entry whose halves became equal, and equal home and working words of a line whose record is needed
 abbrev pub plausible : List Scenario
 plausible =
-    fresh (twoStores ++ (line (evict 0) 0 0 ∷ line (writeBack 0) 0 8 ∷ line (commit 0) 0 6 ∷ line recover 0 3
+    fresh (twoStores ++ (expect (evict 0) 0 0 ∷ expect (writeBack 0) 0 8 ∷ expect (commit 0) 0 6 ∷ expect recover 0 3
     ∷ [])) [] 9 9
     ∷ fresh
-    (twoStores ++ (line (evict 0) 0 0 ∷ line (store 0 0 11) 0 0 ∷ line (store 0 0 9) 0 0 ∷ line (commit 0) 0 6
-    ∷ line recover 0 3 ∷ []))
+    (twoStores ++ (expect (evict 0) 0 0 ∷ expect (store 0 0 11) 0 0 ∷ expect (store 0 0 9) 0 0 ∷ expect (commit 0) 0 6
+    ∷ expect recover 0 3 ∷ []))
     []
     9
     9
-    ∷ fresh (transaction 7 ++ (line (begin 0) 0 0 ∷ line (store 0 0 0) 0 0 ∷ line deleteOldest 15 0 ∷ line recover 0 2
+    ∷ fresh (transaction 7 ++ (expect (begin 0) 0 0 ∷ expect (store 0 0 0) 0 0 ∷ expect deleteOldest 15 0 ∷ expect recover 0 2
     ∷ [])) [] 7 7
     ∷ []
 
@@ -215,13 +212,16 @@ edges =
     fresh (commitUnder 6 0 6) [] 0 7
     ∷ fresh (commitUnder 5 255 5) [] 0 0
     ∷ fresh
-    (line (begin 0) 0 0 ∷ line (store 0 0 7) 0 0 ∷ line logUndo 0 3 ∷ line (writeBack 0) 0 8 ∷ line deleteOldest 15 0
-    ∷ line recover 0 2 ∷ [])
+    (expect (begin 0) 0 0 ∷ expect (store 0 0 7) 0 0 ∷ expect logUndo 0 3 ∷ expect (writeBack 0) 0 8 ∷ expect deleteOldest 15 0
+    ∷ expect recover 0 2 ∷ [])
     []
     0
     0
-    ∷ fresh (twoStores ++ (line (begin 1) 0 0 ∷ line (commit 1) 0 3 ∷ line recover 0 2 ∷ [])) (headIs 2 ∷ []) 0 0
+    ∷ fresh (twoStores ++ (expect (begin 1) 0 0 ∷ expect (commit 1) 0 3 ∷ expect recover 0 2 ∷ [])) (headIs 2 ∷ []) 0 0
     ∷ []
 
 abbrev pub scenarios : List Scenario
 scenarios = p1 ++ (p2 ++ (p3 ++ (p4 ++ (p5 ++ (p6 ++ (p7 ++ (p8 ++ (p9 ++ (p10 ++ (p11 ++ (plausible ++ edges)))))))))))
+
+abbrev pub ScenariosClaim : Type 0
+ScenariosClaim = all passes scenarios ≡ true

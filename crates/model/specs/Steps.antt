@@ -11,7 +11,7 @@ use Rattle.parts.specs.declared.Entry.{Entry}
 use Rattle.parts.specs.declared.Line.{Line}
 use Rattle.parts.specs.declared.Verdict.{Verdict}
 use Rattle.parts.specs.declared.Verdict.the-variants.{Nothing, Damaged, Open, Needed, Spare}
-use Rattle.parts.specs.Lines.{nobody}
+use Rattle.parts.specs.FreeLine.{nobody}
 use Rattle.parts.specs.States.{Clean, Dirty, URLog, ULog}
 use Rattle.parts.specs.Entries.{discarded, amended}
 use Rattle.model.specs.Lists.{keep, upTo, isEmpty}
@@ -61,12 +61,16 @@ storeLogs m w same = cond (not same && (eqb (stateIn (m .lines) w) Clean && leb 
 
 -- what a store of another value does to the word's line and to the buffers, by the word's state
 unfoldable pub storedAs : ℕ → ℕ → ℕ → ℕ → ℕ → Machine → Machine
+-- Clean
 storedAs zero t w old v m =
     withLines (marked Dirty w (m .lines))
     (withRedo (discarded w (m .buffers .redo))
     (withUndoRedo (m .buffers .undoRedo ++ (record { thread = t; word = w; undo = old; redo = v } ∷ [])) m))
+-- Dirty
 storedAs (suc zero) t w old v m = withUndoRedo (amended w v (m .buffers .undoRedo)) m
+-- URLog
 storedAs (suc (suc zero)) t w old v m = withLines (marked ULog w (m .lines)) m
+-- ULog
 storedAs (suc (suc (suc n))) t w old v m = m
 
 -- "t becomes holder of the line. If the value equals the working one, that is all. Otherwise the working word and the

@@ -2,4 +2,4 @@
 pub mod Listed
 pub mod Entries
 pub mod States
-pub mod Lines
+pub mod FreeLine

@@ -1,12 +1,12 @@
 // The changes of the cases 13 to 29: they "change the state and nothing else".
 use crate::disturbing::Disturbance;
-use crate::numbers::MAX;
-use crate::numbers::either;
-use crate::numbers::less;
-use crate::numbers::one_of;
-use crate::numbers::rest;
-use crate::numbers::sum;
 use crate::setup::Plan;
+use crate::wrapping::MAX;
+use crate::wrapping::either;
+use crate::wrapping::minus;
+use crate::wrapping::one_of;
+use crate::wrapping::rest;
+use crate::wrapping::sum;
 use buffers::RedoBuffer;
 use buffers::UndoBuffer;
 use buffers::key;
@@ -34,7 +34,7 @@ fn limits(mut state: Machine, case: u64, a: u64) -> Machine {
     let head = state.head;
     let after = sum(state.tail, 1);
     let end = sum(head, l);
-    let before = either(head == 0, 0, less(head, 1));
+    let before = either(head == 0, 0, minus(head, 1));
     let tail = either(case == 17, end, state.tail);
     state.words = short(either(case == 13, one_of(a, 0, 4, w + 1, 520), w));
     state.slots = short(either(case == 14, one_of(a, 7, 1025, 8, 1024), l));

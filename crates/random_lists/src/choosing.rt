@@ -3,12 +3,6 @@ use crate::generator::draw;
 use crate::generator::draw_from;
 use crate::generator::draw_if;
 use crate::generator::raw;
-use crate::numbers::MAX;
-use crate::numbers::either;
-use crate::numbers::less;
-use crate::numbers::one_of;
-use crate::numbers::rest;
-use crate::numbers::sum;
 use crate::setup::Plan;
 use crate::tables::BEGIN;
 use crate::tables::RECOVER;
@@ -19,6 +13,12 @@ use crate::tables::WRITE_HOME;
 use crate::tables::digit;
 use crate::tables::longest;
 use crate::tables::script;
+use crate::wrapping::MAX;
+use crate::wrapping::either;
+use crate::wrapping::minus;
+use crate::wrapping::one_of;
+use crate::wrapping::rest;
+use crate::wrapping::sum;
 
 // A run of steps of one kind, this step with its kind k, thread t, word or line p, value v and supply count c, and the
 // generator's x.
@@ -99,7 +99,7 @@ impl Run {
     // "Then run becomes run - 1. If kind is 1 and opening: .."
     fn taken(mut self) -> Run {
         let begins = (self.kind == STORE) & self.opening;
-        self.run = less(self.run, 1);
+        self.run = minus(self.run, 1);
         self.opening = self.opening & !begins;
         self.k = either(begins, BEGIN, self.kind);
         self

@@ -1,6 +1,6 @@
 // "G. Digest."
 use crate::generator::GOLD;
-use crate::numbers::sum;
+use crate::wrapping::sum;
 
 // "fold(v)"
 pub(crate) fn fold(digest: u64, v: u64) -> u64 {

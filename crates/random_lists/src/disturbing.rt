@@ -2,17 +2,17 @@
 use crate::generator::draw_from;
 use crate::generator::draw_if;
 use crate::generator::raw;
-use crate::numbers::MAX;
-use crate::numbers::either;
-use crate::numbers::less;
-use crate::numbers::nth;
-use crate::numbers::one_of;
-use crate::numbers::rest;
-use crate::numbers::sum;
 use crate::setup::Plan;
 use crate::tables::DELETE;
 use crate::tables::RECOVER;
 use crate::tables::SET_DOWN;
+use crate::wrapping::MAX;
+use crate::wrapping::either;
+use crate::wrapping::minus;
+use crate::wrapping::nth;
+use crate::wrapping::one_of;
+use crate::wrapping::rest;
+use crate::wrapping::sum;
 use log::NUMBERS;
 use state::CUT;
 use state::DAMAGED;
@@ -75,7 +75,7 @@ impl Disturbance {
         let may = !(forced | (no_line | no_record));
         let r = raw(self.x);
         self.x = either(may, r, self.x);
-        self.mend = either(self.mend == 0, 0, less(self.mend, 1));
+        self.mend = either(self.mend == 0, 0, minus(self.mend, 1));
         self.forced = forced;
         self.case = NONE;
         if may & (rest(r, plan.odds) == 0) {
@@ -113,7 +113,7 @@ impl Disturbance {
 
     // The cases 5 to 12: the word i
     fn place(self, l: u64, head: u64, tail: u64) -> u64 {
-        let d = less(tail, head);
+        let d = minus(tail, head);
         let number = sum(head, rest(self.a, either(d == 0, 1, d)));
         let s = 1 + 3 * (rest(number, l) % 1024);
         either(
@@ -128,7 +128,7 @@ impl Disturbance {
         let few = self.b / 3 % 4;
         let high = 48 + self.b % 16;
         let bit = nth(
-            less(self.case, 6),
+            minus(self.case, 6),
             few,
             few,
             few,

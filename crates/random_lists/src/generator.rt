@@ -1,7 +1,7 @@
 // "The generator" has one word x. Each function takes x, and hands back the new one.
-use crate::numbers::one_of;
-use crate::numbers::rest;
-use crate::numbers::sum;
+use crate::wrapping::one_of;
+use crate::wrapping::rest;
+use crate::wrapping::sum;
 
 pub const GOLD: u64 = 0x9e37_79b9_7f4a_7c15;
 

@@ -5,12 +5,12 @@ mod choosing;
 mod digest;
 mod disturbing;
 mod generator;
-mod making;
-mod numbers;
-mod output;
 mod playing;
+mod printing;
 mod setup;
 mod tables;
+mod the_step;
+mod wrapping;
 
 use playing::Score;
 
@@ -20,10 +20,10 @@ fn hundred(i: u64, before: Score) -> Score {
     score.digest = 0;
     let mut j = 0;
     while j < 100 {
-        score = playing::with_list(numbers::sum(i, j), score);
+        score = playing::with_list(wrapping::sum(i, j), score);
         j += 1;
     }
-    output::digest(score.digest);
+    printing::digest(score.digest);
     score
 }
 
@@ -39,6 +39,6 @@ fn main() {
         i += 1;
     }
     let counts = score.counts;
-    output::answers(counts);
-    output::total(score.steps);
+    printing::answers(counts);
+    printing::total(score.steps);
 }

@@ -7,15 +7,15 @@ use crate::digest::fold_words;
 use crate::disturbing::Disturbance;
 use crate::disturbing::undisturbed;
 use crate::generator::seeded;
-use crate::making::lent_in;
-use crate::making::made;
-use crate::numbers::either;
-use crate::numbers::sum;
 use crate::setup::Plan;
 use crate::setup::fill;
 use crate::setup::fill_log;
 use crate::setup::planned;
 use crate::tables::RECOVER;
+use crate::the_step::lent_in;
+use crate::the_step::make_step;
+use crate::wrapping::either;
+use crate::wrapping::sum;
 use machine::Answer;
 use machine::State;
 use state::CUT;
@@ -99,9 +99,9 @@ impl UnderWay {
 
     // The changes, part E and part F
     fn stepped(self, home: &mut [u64], working: &mut [u64], log: &mut [u64]) -> UnderWay {
-        let game = self.disturbed(log);
-        let r = made(game.state, game.run, home, working, log);
-        game.after(r)
+        let list = self.disturbed(log);
+        let r = make_step(list.state, list.run, home, working, log);
+        list.after(r)
     }
 
     // The rest of part G
@@ -131,21 +131,21 @@ fn play(
     mut working: [u64; 512],
     mut log: [u64; 3073],
 ) -> Score {
-    let mut game = start;
+    let mut list = start;
     let mut score = before;
     let mut left = start.plan.steps;
     while left > 0 {
         left -= 1;
-        game = game.chosen();
-        let lent = lent_in(game.disturbance.case, game.plan.w, game.plan.l);
+        list = list.chosen();
+        let lent = lent_in(list.disturbance.case, list.plan.w, list.plan.l);
         let h = lent.home;
         let w = lent.working;
         let l = lent.log;
-        game = game.stepped(&mut home[..h], &mut working[..w], &mut log[..l]);
-        game = game.folded(left == 0, &home, &working, &log);
-        score = score.counted(game.answer);
+        list = list.stepped(&mut home[..h], &mut working[..w], &mut log[..l]);
+        list = list.folded(left == 0, &home, &working, &log);
+        score = score.counted(list.answer);
     }
-    score.digest = fold(score.digest, game.digest);
+    score.digest = fold(score.digest, list.digest);
     score
 }
 

@@ -3,11 +3,11 @@ use crate::generator::draw;
 use crate::generator::draw_from;
 use crate::generator::pick;
 use crate::generator::raw;
-use crate::numbers::either;
-use crate::numbers::less;
-use crate::numbers::nth;
-use crate::numbers::rest;
-use crate::numbers::sum;
+use crate::wrapping::either;
+use crate::wrapping::minus;
+use crate::wrapping::nth;
+use crate::wrapping::rest;
+use crate::wrapping::sum;
 use log::NUMBERS;
 
 // What is drawn for a list, and the generator's x after it. `w` and `l` are W and L.
@@ -97,10 +97,10 @@ impl Plan {
         let lines = 1 + span / 8;
         let high = draw(self.x, 2);
         let near = draw(high.x, 3 * l);
-        let head = pick(near.x, 0, 0, 5 * l + 3, less(NUMBERS, near.r));
+        let head = pick(near.x, 0, 0, 5 * l + 3, minus(NUMBERS, near.r));
         self.span = span;
         self.threads = either(lines < self.threads, lines, self.threads);
-        self.base = either(high.r == 0, 0, less(self.w, span));
+        self.base = either(high.r == 0, 0, minus(self.w, span));
         self.head = head.r;
         self.x = head.x;
         self

@@ -18,7 +18,7 @@ use Rattle.lines.specs.declared.Lines.{Lines}
 use Rattle.parts.specs.declared.Verdict.{Verdict}
 use Rattle.parts.specs.declared.Verdict.the-variants.{Nothing, Open, Needed, Spare}
 use Rattle.lines.specs.Lines.{lineAt, firstLines}
-use Rattle.parts.specs.Lines.{freeLine}
+use Rattle.parts.specs.FreeLine.{freeLine}
 use Rattle.parts.proofs.Listed.{length-listed}
 use Rattle.model.specs.Machine.{Machine as Model, Memory, lineOf, dirtyIn}
 use Rattle.model.specs.Readings.{records, closed}

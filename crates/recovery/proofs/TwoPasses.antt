@@ -10,38 +10,54 @@ use Rattle.log.specs.declared.Record.the-variants.{UndoRedo, Redo, Commit}
 use Rattle.log.specs.declared.Reading.{Reading}
 use Rattle.log.specs.declared.Reading.the-variants.{Good, Bad}
 use Rattle.log.specs.Stores.{Store, storedUnder}
+use Rattle.log.specs.Layout.{threadOf}
 use Rattle.log.specs.Region.{headOf, readBack, readFrom, recordsOf}
 use Rattle.log.proofs.Stored.{length-stored, under-append, under-none}
 use Rattle.log.proofs.Searching.{read-none, read-next}
 use Rattle.model.specs.Readings.{records, closed}
 use Rattle.model.specs.Recovery.{redoWrites, undoWrites, recoveryWrites}
 use Rattle.recovery.specs.declared.reading.Found.{Found}
-use Rattle.recovery.specs.declared.passes.Write.{Write}
+use Rattle.recovery.specs.declared.passes.Effect.{Effect}
 use Rattle.recovery.specs.Replaying.{replayStores, replayed}
-use Rattle.recovery.specs.Recovering.{ValidIf, recordsFrom, closedBy, Lasts, Scanned, writes, threadRead, redoIf, undoIf, redoRead, undoRead}
+use Rattle.recovery.specs.Recovering.{ValidIf, recordsFrom, closedBy, Lasts, Scanned, threadRead}
+use Rattle.recovery.specs.Recovering.{effectOf, effectAt, storesIf, redoStores, undoStores}
 use Rattle.recovery.proofs.ReadOn.{valid-read}
 
 -- a store that is made unless the record is closed
-pub open-closed : (b d : Bool) (s : Store) → b ≡ d → cond (not b) (s ∷ []) [] ≡ cond d [] (s ∷ [])
-open-closed true d s e = ap (λ (x : Bool). cond x [] (s ∷ [])) e
-open-closed false d s e = ap (λ (x : Bool). cond x [] (s ∷ [])) e
+open-closed : (b : Bool) (s : Store) → cond b [] (s ∷ []) ≡ cond (not b) (s ∷ []) []
+open-closed true s = refl
+open-closed false s = refl
 
 -- what is read back has one of the eight threads
 thread-small : (words : ℕ) (x : Reading) → ValidIf words x → threadRead x < 8
 thread-small words (Good r) v = v .thread
 thread-small words Bad v = omega arith
 
+-- the effect of a record read back, by what was read
+module _ (words n : ℕ) (log last : List ℕ) {x : Reading} (read : x ≡ readBack words log n) where
+  by-reading : (y : Reading) → x ≡ y → effectOf (closedBy last n (threadRead y)) y ≡ effectAt words log last n
+  by-reading y e = ap (λ (z : Reading). effectOf (closedBy last n (threadRead z)) z) (sym e ∙ read)
+
+  pub effect-good : {r s : Record} → x ≡ Good r → r ≡ s → (b : Bool) → b ≡ closedBy last n (threadOf s) → effectOf b (Good s) ≡ effectAt words log last n
+  effect-good {r} {s} e f b closed = rw closed (by-reading (Good s) (e ∙ ap Good f))
+
+  pub effect-bad : x ≡ Bad → effectOf false Bad ≡ effectAt words log last n
+  effect-bad e = by-reading Bad e
+
 -- the stores of each pass, the first record apart
-redo-first : (x : Reading) (xs : List Reading) → redoWrites (records (x ∷ xs)) ≡ redoRead (λ t. closed t (records xs)) x ++ redoWrites (records xs)
+redo-first : (x : Reading) (xs : List Reading)
+    → redoWrites (records (x ∷ xs)) ≡ redoStores (effectOf (closed (threadRead x) (records xs)) x) ++ redoWrites (records xs)
 unfolding redoWrites records
 redo-first (Good (UndoRedo t w u r)) xs = refl
 redo-first (Good (Redo t w r)) xs = refl
 redo-first (Good (Commit t)) xs = refl
 redo-first Bad xs = refl
 
-undo-first : (x : Reading) (xs : List Reading) → undoWrites (records (x ∷ xs)) ≡ undoWrites (records xs) ++ undoRead (λ t. closed t (records xs)) x
+undo-first : (x : Reading) (xs : List Reading)
+    → undoWrites (records (x ∷ xs)) ≡ undoWrites (records xs) ++ undoStores (effectOf (closed (threadRead x) (records xs)) x)
 unfolding undoWrites records
-undo-first (Good (UndoRedo t w u r)) xs = refl
+undo-first (Good (UndoRedo t w u r)) xs =
+    ap (λ (ss : List Store). undoWrites (records xs) ++ ss) (open-closed (closed t (records xs)) (record { at = w; value = u }))
 undo-first (Good (Redo t w r)) xs = refl
 undo-first (Good (Commit t)) xs = refl
 undo-first Bad xs = sym (append-nil (undoWrites (records xs)))
@@ -55,30 +71,31 @@ module _ (words : ℕ) (log : List ℕ) (head tail : ℕ) (last : List ℕ) (las
 
   -- the stores of each pass from a number on, its own record apart
   pub redo-next : redoWrites (recordsFrom words log n tail)
-      ≡ redoRead (closedBy last n) (readBack words log n) ++ redoWrites (recordsFrom words log (n + 1) tail)
+      ≡ redoStores (effectAt words log last n) ++ redoWrites (recordsFrom words log (n + 1) tail)
   redo-next =
       let x = readBack words log n in
       let xs = readFrom (tail - (n + 1)) words log (n + 1) in
       ap (λ (rs : List Reading). redoWrites (records rs)) (read-next words log n tail hi)
       ∙ redo-first x xs
-      ∙ ap (λ (b : Bool). redoIf b x ++ redoWrites (records xs)) by-last
+      ∙ ap (λ (b : Bool). redoStores (effectOf b x) ++ redoWrites (records xs)) by-last
 
   pub undo-next : undoWrites (recordsFrom words log n tail)
-      ≡ undoWrites (recordsFrom words log (n + 1) tail) ++ undoRead (closedBy last n) (readBack words log n)
+      ≡ undoWrites (recordsFrom words log (n + 1) tail) ++ undoStores (effectAt words log last n)
   undo-next =
       let x = readBack words log n in
       let xs = readFrom (tail - (n + 1)) words log (n + 1) in
       ap (λ (rs : List Reading). undoWrites (records rs)) (read-next words log n tail hi)
       ∙ undo-first x xs
-      ∙ ap (λ (b : Bool). undoWrites (records xs) ++ undoIf b x) by-last
+      ∙ ap (λ (b : Bool). undoWrites (records xs) ++ undoStores (effectOf b x)) by-last
 
 -- a store that is made or not, under the supply
-pub make-one : (w : Write) (c r : ℕ) (xs ys : List ℕ) → w .made ≡ true → r ≡ c - 1
-    → ys ≡ storedUnder c xs (record { at = w .at; value = w .value } ∷ []) → (r ≡ c - length (writes w)) × (ys ≡ storedUnder c xs (writes w))
-make-one w c r xs ys e f g = rw e (f, g)
+pub store-made : (b : Bool) (at value c r : ℕ) (xs ys : List ℕ) → b ≡ true → r ≡ c - 1 → ys ≡ storedUnder c xs (record { at = at; value = value } ∷ [])
+    → (r ≡ c - length (storesIf b at value)) × (ys ≡ storedUnder c xs (storesIf b at value))
+store-made b at value c r xs ys e f g = rw e (f, g)
 
-pub make-none : (w : Write) (c : ℕ) (xs : List ℕ) → w .made ≡ false → (c ≡ c - length (writes w)) × (xs ≡ storedUnder c xs (writes w))
-make-none w c xs e = under-none c xs (writes w) (rw e)
+pub store-none : (b : Bool) (at value c : ℕ) (xs : List ℕ) → b ≡ false
+    → (c ≡ c - length (storesIf b at value)) × (xs ≡ storedUnder c xs (storesIf b at value))
+store-none b at value c xs e = under-none c xs (storesIf b at value) (rw e)
 
 -- Stores under a supply, and then more under what they leave of it.
 module _ (c left : ℕ) (xs ys : List ℕ) (ss ts : List Store) (less : left ≡ c - length ss) (made : ys ≡ storedUnder c xs ss) where
@@ -104,18 +121,18 @@ module _ (words : ℕ) (log : List ℕ) (head tail supply : ℕ) (old : List ℕ
 
   -- one store on
   pub redoing-next : (last : List ℕ) → Lasts words log head tail last → (home next : List ℕ) (left less number : ℕ) → Redoing home left number
-      → number < tail → (w : Write) → writes w ≡ redoRead (closedBy last number) (readBack words log number) → less ≡ left - length (writes w)
-      → next ≡ storedUnder left home (writes w) → Redoing next less (number + 1)
+      → number < tail → (w : Effect) → w ≡ effectAt words log last number → less ≡ left - length (redoStores w)
+      → next ≡ storedUnder left home (redoStores w) → Redoing next less (number + 1)
   redoing-next last lasts home next left less number s hi w e f g =
       let ts = redoWrites (recordsFrom words log (number + 1) tail) in
-      let all : redoWrites (recordsFrom words log number tail) ≡ writes w ++ ts =
-      redo-next words log head tail last lasts number (s .from) hi ∙ ap (λ (ss : List Store). ss ++ ts) (sym e) in
+      let all : redoWrites (recordsFrom words log number tail) ≡ redoStores w ++ ts =
+      redo-next words log head tail last lasts number (s .from) hi ∙ ap (λ (x : Effect). redoStores x ++ ts) (sym e) in
       let from = s .from in
       record {
         from = omega arith;
-        size = ap length g ∙ length-stored home (take left (writes w)) ∙ s .size;
-        rest = then-left left less home next (writes w) ts f g ∙ ap (λ (ss : List Store). left - length ss) (sym all) ∙ s .rest;
-        stores = then-made left less home next (writes w) ts f g ∙ ap (storedUnder left home) (sym all) ∙ s .stores;
+        size = ap length g ∙ length-stored home (take left (redoStores w)) ∙ s .size;
+        rest = then-left left less home next (redoStores w) ts f g ∙ ap (λ (ss : List Store). left - length ss) (sym all) ∙ s .rest;
+        stores = then-made left less home next (redoStores w) ts f g ∙ ap (storedUnder left home) (sym all) ∙ s .stores;
       }
 
   -- at its end
@@ -142,21 +159,21 @@ module _ (words : ℕ) (log : List ℕ) (head tail supply : ℕ) (old : List ℕ
 
   -- one store on
   pub undoing-next : (last : List ℕ) → Lasts words log head tail last → (home next : List ℕ) (left less turn : ℕ) → Undoing home left turn
-      → turn < tail - head → (w : Write) → writes w ≡ undoRead (closedBy last (tail - 1 - turn)) (readBack words log (tail - 1 - turn))
-      → less ≡ left - length (writes w) → next ≡ storedUnder left home (writes w) → Undoing next less (turn + 1)
+      → turn < tail - head → (w : Effect) → w ≡ effectAt words log last (tail - 1 - turn)
+      → less ≡ left - length (undoStores w) → next ≡ storedUnder left home (undoStores w) → Undoing next less (turn + 1)
   undoing-next last lasts home next left less turn s lo w e f g =
       let n = tail - 1 - turn in
       let after : n + 1 ≡ tail - turn = omega arith in
       let here : n ≡ tail - (turn + 1) = omega arith in
       let ss = undoWrites (recordsFrom words log (tail - turn) tail) in
-      let all : ss ++ writes w ≡ undoWrites (recordsFrom words log (tail - (turn + 1)) tail) =
+      let all : ss ++ undoStores w ≡ undoWrites (recordsFrom words log (tail - (turn + 1)) tail) =
       sym (undo-next words log head tail last lasts n (omega arith) (omega arith)
-      ∙ ap₂ (λ (m : ℕ) (ts : List Store). undoWrites (recordsFrom words log m tail) ++ ts) after (sym e))
+      ∙ ap₂ (λ (m : ℕ) (x : Effect). undoWrites (recordsFrom words log m tail) ++ undoStores x) after (sym e))
       ∙ ap (λ (m : ℕ). undoWrites (recordsFrom words log m tail)) here in
       record {
         most = omega arith;
-        rest = f ∙ then-left supply left old home ss (writes w) (s .rest) (s .stores) ∙ ap (λ (ts : List Store). supply - length ts) all;
-        stores = g ∙ then-made supply left old home ss (writes w) (s .rest) (s .stores) ∙ ap (storedUnder supply old) all;
+        rest = f ∙ then-left supply left old home ss (undoStores w) (s .rest) (s .stores) ∙ ap (λ (ts : List Store). supply - length ts) all;
+        stores = g ∙ then-made supply left old home ss (undoStores w) (s .rest) (s .stores) ∙ ap (storedUnder supply old) all;
       }
 
   -- it keeps home's length

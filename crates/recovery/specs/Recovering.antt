@@ -2,7 +2,7 @@
 -- pass backward over the records read.
 use Prim.Native.Nat.{ℕ, _+_, _-_, _≤_, _<_}
 use mathlib.Core.Path.{_≡_}
-use mathlib.Core.Bool.{Bool, false, cond}
+use mathlib.Core.Bool.{Bool, false, cond, not}
 use mathlib.Core.List.{List, [], _∷_}
 use lib.Dec.{ltb}
 use lib.ListN.{getD, set}
@@ -13,13 +13,13 @@ use Rattle.log.specs.declared.Reading.the-variants.{Good, Bad}
 use Rattle.log.specs.Stores.{Store}
 use Rattle.log.specs.Layout.{threadOf}
 use Rattle.log.specs.Holding.{Valid}
-use Rattle.log.specs.Region.{numbers, headOf, tailOf, readFrom, recordsOf}
+use Rattle.log.specs.Region.{numbers, headOf, tailOf, readBack, readFrom, recordsOf}
 use Rattle.model.specs.Lists.{any}
 use Rattle.model.specs.Machine.{Memory}
 use Rattle.model.specs.Refusals.{Row, row, size, headTooHigh, wrongLengths}
 use Rattle.model.specs.Readings.{isBad, records, isCommit, closed}
 use Rattle.recovery.specs.declared.reading.Found.{Found}
-use Rattle.recovery.specs.declared.passes.Write.{Write}
+use Rattle.recovery.specs.declared.passes.Effect.{Effect}
 
 -- the rows of a recovery before the log is read
 abbrev pub unreadableRows : Memory → List Row
@@ -63,31 +63,34 @@ pub record Scanned (words : ℕ) (log : List ℕ) (found : Found) : Type 0 where
   pub bad : found .bad ≡ any isBad (recordsOf words log)
   pub last : Lasts words log (headOf log) (found .tail) (found .last)
 
--- the store of a pass, if there is one
-abbrev pub writes : Write → List Store
-writes w = cond (w .made) (record { at = w .at; value = w .value } ∷ []) []
-
 -- the thread of a record read back; a bad one's is of no account
 abbrev pub threadRead : Reading → ℕ
 threadRead (Good r) = threadOf r
 threadRead Bad = 0
 
--- what a record that was read stores in each pass, if it is closed and if it is not
-abbrev pub redoIf : Bool → Reading → List Store
-redoIf b (Good (UndoRedo t w u r)) = cond b (record { at = w; value = r } ∷ []) []
-redoIf b (Good (Redo t w r)) = cond b (record { at = w; value = r } ∷ []) []
-redoIf b (Good (Commit t)) = []
-redoIf b Bad = []
+-- what a record that was read has to do with home, closed or not: "Closed ones store their redo", "open undo+redo ones
+-- store their undo"
+abbrev pub noEffect : Effect
+noEffect = record { at = 0; redone = false; redo = 0; undone = false; undo = 0 }
 
-abbrev pub undoIf : Bool → Reading → List Store
-undoIf b (Good (UndoRedo t w u r)) = cond b [] (record { at = w; value = u } ∷ [])
-undoIf b (Good (Redo t w r)) = []
-undoIf b (Good (Commit t)) = []
-undoIf b Bad = []
+abbrev pub effectOf : Bool → Reading → Effect
+effectOf b (Good (UndoRedo t w u r)) = record { at = w; redone = b; redo = r; undone = not b; undo = u }
+effectOf b (Good (Redo t w r)) = record { at = w; redone = b; redo = r; undone = false; undo = 0 }
+effectOf b (Good (Commit t)) = noEffect
+effectOf b Bad = noEffect
 
--- the same, the threads whose records are closed being given
-abbrev pub redoRead : (ℕ → Bool) → Reading → List Store
-redoRead f x = redoIf (f (threadRead x)) x
+-- that of record n, by the number of each thread's last commit
+abbrev pub effectAt : ℕ → List ℕ → List ℕ → ℕ → Effect
+effectAt words log last n =
+    let x = readBack words log n in
+    effectOf (closedBy last n (threadRead x)) x
 
-abbrev pub undoRead : (ℕ → Bool) → Reading → List Store
-undoRead f x = undoIf (f (threadRead x)) x
+-- a store that is made or not, and those of an effect in the two passes
+abbrev pub storesIf : Bool → ℕ → ℕ → List Store
+storesIf made at value = cond made (record { at = at; value = value } ∷ []) []
+
+abbrev pub redoStores : Effect → List Store
+redoStores e = storesIf (e .redone) (e .at) (e .redo)
+
+abbrev pub undoStores : Effect → List Store
+undoStores e = storesIf (e .undone) (e .at) (e .undo)

@@ -3,19 +3,34 @@ ghost use mathlib.Core.Path.{_≡_};
 ghost use Prim.Native.Nat.{_-_, _≤_, _<_};
 ghost use lib.ListN.{length};
 ghost use Rattle.log.specs.Stores.{storedUnder};
-ghost use Rattle.log.specs.Region.{readBack, recordsOf};
+ghost use Rattle.log.specs.Region.{recordsOf};
 ghost use Rattle.model.specs.Readings.{records};
 ghost use Rattle.model.specs.Recovery.{redoWrites, undoWrites, recoveryWrites};
-ghost use Rattle.recovery.specs.Recovering.{recordsFrom, closedBy, Lasts, Scanned, writes, redoRead, undoRead};
+ghost use Rattle.recovery.specs.Recovering.{recordsFrom, closedBy, Lasts, Scanned};
+ghost use Rattle.recovery.specs.Recovering.{storesIf, noEffect, effectAt};
 use crate::reading::Found;
 use log::Reading;
 use log::Record;
 
-// A store of a pass into home, if there is one.
-struct Write {
-    made: bool,
+// What a record has to do with home: its word, whether its redo is stored there, and whether its undo is.
+struct Effect {
     at: usize,
-    value: u64,
+    redone: bool,
+    redo: u64,
+    undone: bool,
+    undo: u64,
+}
+
+fn no_effect() -> Effect
+    ensures { λ (r : Effect). ⌜ r ≡ noEffect ⌝ }
+{
+    Effect {
+        at: 0,
+        redone: false,
+        redo: 0,
+        undone: false,
+        undo: 0,
+    }
 }
 
 // "counts as closed if a commit of its thread comes later": its number is below that of the thread's last commit.
@@ -26,47 +41,9 @@ fn is_closed(last: &[u64; 8], thread: u8, number: u64) -> bool
     number < last[thread as usize]
 }
 
-// What a closed record stores: its redo.
-fn redo_at(log: &[u64], number: u64, words: u16, last: &[u64; 8]) -> Write
-    ensures { λ (r : Write). ⌜ writes r ≡ redoRead (closedBy (now (last .entry)) number) (readBack words (now
-        (log .entry)) number) ⌝ }
-{
-    let reading = log::read(log, number, words);
-    match reading {
-        Reading::Good(entry) => match entry {
-            Record::UndoRedo {
-                thread,
-                word,
-                undo: _,
-                redo,
-            } => Write {
-                made: is_closed(last, thread, number),
-                at: word as usize,
-                value: redo,
-            },
-            Record::Redo { thread, word, redo } => Write {
-                made: is_closed(last, thread, number),
-                at: word as usize,
-                value: redo,
-            },
-            Record::Commit { thread: _ } => Write {
-                made: false,
-                at: 0,
-                value: 0,
-            },
-        },
-        Reading::Bad => Write {
-            made: false,
-            at: 0,
-            value: 0,
-        },
-    }
-}
-
-// What an open record stores: the undo of an undo+redo record.
-fn undo_at(log: &[u64], number: u64, words: u16, last: &[u64; 8]) -> Write
-    ensures { λ (r : Write). ⌜ writes r ≡ undoRead (closedBy (now (last .entry)) number) (readBack words (now
-        (log .entry)) number) ⌝ }
+// "Closed ones store their redo", "open undo+redo ones store their undo"; a commit, or a bad record, stores nothing.
+fn effect_at(log: &[u64], number: u64, words: u16, last: &[u64; 8]) -> Effect
+    ensures { λ (r : Effect). ⌜ r ≡ effectAt words (now (log .entry)) (now (last .entry)) number ⌝ }
 {
     let reading = log::read(log, number, words);
     match reading {
@@ -75,42 +52,37 @@ fn undo_at(log: &[u64], number: u64, words: u16, last: &[u64; 8]) -> Write
                 thread,
                 word,
                 undo,
-                redo: _,
-            } => Write {
-                made: !is_closed(last, thread, number),
+                redo,
+            } => {
+                let closed = is_closed(last, thread, number);
+                Effect {
+                    at: word as usize,
+                    redone: closed,
+                    redo: redo,
+                    undone: !closed,
+                    undo: undo,
+                }
+            }
+            Record::Redo { thread, word, redo } => Effect {
                 at: word as usize,
-                value: undo,
+                redone: is_closed(last, thread, number),
+                redo: redo,
+                undone: false,
+                undo: 0,
             },
-            Record::Redo {
-                thread: _,
-                word: _,
-                redo: _,
-            } => Write {
-                made: false,
-                at: 0,
-                value: 0,
-            },
-            Record::Commit { thread: _ } => Write {
-                made: false,
-                at: 0,
-                value: 0,
-            },
+            Record::Commit { thread: _ } => no_effect(),
         },
-        Reading::Bad => Write {
-            made: false,
-            at: 0,
-            value: 0,
-        },
+        Reading::Bad => no_effect(),
     }
 }
 
-// The store made, under the supply.
-fn make(home: &mut [u64], write: Write, supply: u64) -> u64
-    ensures { λ r. ⌜ r ≡ supply - length (writes write) ⌝ }
-    ensures { λ r. ⌜ now (home .exit) ≡ storedUnder supply (now (home .entry)) (writes write) ⌝ }
+// One store under the supply, or none.
+fn store_if(home: &mut [u64], made: bool, at: usize, value: u64, supply: u64) -> u64
+    ensures { λ r. ⌜ r ≡ supply - length (storesIf made at value) ⌝ }
+    ensures { λ r. ⌜ now (home .exit) ≡ storedUnder supply (now (home .entry)) (storesIf made at value) ⌝ }
 {
-    if write.made {
-        log::store(home, write.at, write.value, supply)
+    if made {
+        log::store(home, at, value, supply)
     } else {
         supply
     }
@@ -134,8 +106,8 @@ fn redo_pass(
     let mut left = supply;
     let mut number = head;
     while number < tail {
-        let write = redo_at(log, number, words, last);
-        left = make(home, write, left);
+        let effect = effect_at(log, number, words, last);
+        left = store_if(home, effect.redone, effect.at, effect.redo, left);
         number += 1;
     }
     left
@@ -161,8 +133,8 @@ fn undo_pass(
     let mut turn = 0;
     while turn < count {
         let number = tail - 1 - turn;
-        let write = undo_at(log, number, words, last);
-        left = make(home, write, left);
+        let effect = effect_at(log, number, words, last);
+        left = store_if(home, effect.undone, effect.at, effect.undo, left);
         turn += 1;
     }
     left

@@ -9,7 +9,7 @@ use Rattle.model.specs.Plan.{done, cut}
 use Rattle.model.specs.Run.{Timed, World, outcome, after, HomeCommitted, Faithful, ran, answersOf}
 use Rattle.model.proofs.Running.{answers-append, length-answers, faithful-at}
 use Rattle.model.proofs.WholeList.{whole-list}
-use Rattle.runner.specs.Running.{Script, stepsOf, runnable, Report, allMade, noneMade, runOf}
+use Rattle.runner.specs.Running.{Script, stepsOf, runnable, Report, reported, allMade, noneMade, runOf}
 use Rattle.runner.specs.Claim.{recovery, freshMemory, MadeRun, CodeClaim, HandedBackClaim}
 
 -- a run answered 0 made every step
@@ -37,12 +37,15 @@ answer-at w xs s ys =
     rw e (getD-at (answersOf w xs) (outcome (ran w xs) s .answer) _ cut (length xs) (length-answers w xs))
 
 pub code-claim : CodeClaim
-code-claim w s p run before d after list done =
-    let here : getD (answersOf w (stepsOf s)) (length before) cut ≡ 0 = sym (ap (λ (q : Report). getD (q .answers) (length before) cut) (report w s p run)) ∙ done in
+code-claim w s r home working log answers stores run before d after list done =
+    let p = reported r home working log answers stores in
+    let here : getD (answersOf w (stepsOf s)) (length before) cut ≡ 0 =
+    sym (ap (λ (q : Report). getD (q .answers) (length before) cut) (report w s p run)) ∙ done in
     faithful-at w before (recovery d) after (subst (Faithful w) list (faithful w s p run)) refl
     (sym (answer-at w before (recovery d) after) ∙ subst (λ (xs : List Timed). getD (answersOf w xs) (length before) cut ≡ 0) list here)
 
 pub handed-back : HandedBackClaim
-handed-back w s p run before d list done =
-    let last : HomeCommitted (ran w (stepsOf s)) = rw list (code-claim w s p run before d [] list done) in
-    rw (report w s p run) last
+handed-back w s r home working log answers stores run before d list done =
+    let last : HomeCommitted (ran w (stepsOf s)) = rw list (code-claim w s r home working log answers stores run before d [] list done) in
+    let same = ap (λ (q : Report). q .memory .home) (report w s (reported r home working log answers stores) run) in
+    rw same last

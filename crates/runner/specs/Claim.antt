@@ -8,7 +8,8 @@ use Rattle.model.specs.Plan.{done, cut}
 use Rattle.model.specs.Step.{recover}
 use Rattle.model.specs.Run.{Timed, World, Sized, HomeCommitted, ran}
 use Rattle.state.specs.View.{memory}
-use Rattle.runner.specs.Running.{Script, stepsOf, Report, atFirst, runOf}
+use Rattle.runner.specs.declared.Ran.{Ran}
+use Rattle.runner.specs.Running.{Script, stepsOf, Report, reported, atFirst, runOf}
 
 abbrev pub recovery : ℕ → Timed
 recovery c = record { step = recover; supply = c }
@@ -17,8 +18,8 @@ recovery c = record { step = recover; supply = c }
 abbrev pub freshMemory : ℕ → List ℕ → List ℕ → Memory
 freshMemory l home working = memory home working (replicate (1 + 3 * l) 0)
 
--- A run that made every step of a list that begins with a recovery, on buffers within their limits and a fresh log. p
--- is the report of which the contract of `run` speaks.
+-- A run that made every step of a list that begins with a recovery, on buffers within their limits and a fresh log; p
+-- is its report, as the contract of `run` says.
 pub record MadeRun (w : World) (s : Script) (p : Report) : Type 0 where
   pub slots : ℕ
   pub home : List ℕ
@@ -34,17 +35,20 @@ pub record MadeRun (w : World) (s : Script) (p : Report) : Type 0 where
   pub rest : List Timed
   pub first : stepsOf s ≡ recovery supply ∷ rest
 
--- At every recovery in it that is answered done, the first one too, every home word equals the book.
+-- Of what `run` hands back, r and the lent slices as they are then: at every recovery answered done, the first one too,
+-- every home word equals the book.
 abbrev pub CodeClaim : Type 0
 CodeClaim =
-    (w : World) (s : Script) (p : Report) → MadeRun w s p
+    (w : World) (s : Script) (r : Ran) (home working log answers stores : List ℕ)
+    → MadeRun w s (reported r home working log answers stores)
     → (before : List Timed) (d : ℕ) (after : List Timed) → stepsOf s ≡ before ++ (recovery d ∷ after)
-    → getD (p .answers) (length before) cut ≡ done → HomeCommitted (ran w (before ++ (recovery d ∷ [])))
+    → getD answers (length before) cut ≡ done → HomeCommitted (ran w (before ++ (recovery d ∷ [])))
 
--- If its last step is such a recovery, the home words that the run hands back equal the book.
+-- If its last step is such a recovery, the home words handed back equal the book.
 abbrev pub HandedBackClaim : Type 0
 HandedBackClaim =
-    (w : World) (s : Script) (p : Report) → MadeRun w s p
+    (w : World) (s : Script) (r : Ran) (home working log answers stores : List ℕ)
+    → MadeRun w s (reported r home working log answers stores)
     → (before : List Timed) (d : ℕ) → stepsOf s ≡ before ++ (recovery d ∷ [])
-    → getD (p .answers) (length before) cut ≡ done
-    → (i : ℕ) → i < length (p .memory .home) → getD (p .memory .home) i 0 ≡ ran w (stepsOf s) .book .committed i
+    → getD answers (length before) cut ≡ done
+    → (i : ℕ) → i < length home → getD home i 0 ≡ ran w (stepsOf s) .book .committed i

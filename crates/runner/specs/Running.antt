@@ -11,7 +11,7 @@ use Rattle.model.specs.Step.{Step, begin, store, logUndo, logRedo, evict, write
 use Rattle.model.specs.Book.{openedBook}
 use Rattle.model.specs.Run.{Timed, World, ran, answersOf, storesOf}
 use Rattle.runner.specs.declared.Ran.{Ran}
-use Rattle.machine.specs.View.{view}
+use Rattle.machine.specs.Answers.{view}
 use Rattle.state.specs.View.{memory}
 
 -- the lent slices: kind, thread, word or line, value and supply of each step

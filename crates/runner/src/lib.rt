@@ -1,4 +1,4 @@
-// A step as a value, and the run of a list of steps.
+// The run of a list of steps that is lent as slices of numbers.
 use machine::State;
 
 mod running;

@@ -2,7 +2,7 @@
 ghost use Prim.Native.Nat.{_<_};
 ghost use mathlib.Core.Path.{_≡_};
 ghost use lib.ListN.{length};
-ghost use Rattle.machine.specs.View.{view};
+ghost use Rattle.machine.specs.Answers.{view};
 ghost use Rattle.state.specs.View.{memory};
 ghost use Rattle.runner.specs.Running.{script, numbered, stepAt, knownKinds, runnable, reported, runOf};
 use crate::Ran;
@@ -80,9 +80,8 @@ fn is_runnable(
                     & ((answers.len() == n) & ((stores.len() == n) & known_kinds(kinds))))))
 }
 
-// Kind, thread, word or line, value and supply of each step are lent as slices of numbers; the answer of each and the
-// stores that it made are written to the last two. The first step takes `state`, the lost one or one that was handed
-// back. Lengths that differ or a kind above 8 give 1, and nothing is run.
+// The first step takes `state`. The answer of each step and the number of its stores are written to the last two
+// slices. Lengths that differ or a kind above 8 give 1, and nothing is run.
 pub fn run(
     mut state: State,
     home: &mut [u64],

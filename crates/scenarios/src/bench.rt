@@ -1,11 +1,11 @@
 // A scenario under way: the state and the buffers, and what came out and what is expected.
+use crate::by_method::is_recover;
+use crate::by_method::step_by_method;
 use crate::expected::Expected;
 use crate::expected::WORDS;
 use crate::lists::least;
 use crate::lists::same;
 use crate::lists::within;
-use crate::making::is_recover;
-use crate::making::made;
 use crate::states::same_state;
 use machine::State;
 use parts::Step;
@@ -17,29 +17,30 @@ const STEPS: usize = 32;
 
 const SHOWN: usize = 4;
 
-// `lent` has the lengths that are lent of home, working and log. `answer` and `made` are of the steps since the last
-// note: the first answer that is not 0, and the stores of all. `kept` tells that no refused step has changed a buffer,
-// `kept_state` that none has changed the state (a refused recover takes none), `left_lost` that each cut and each
-// refused recover has left the lost state, `known` that the table's text was understood. At the end home and working
-// are expected to have the words of `home_end` and `working_end`, the log's head, once `head_named`, to be `head_end`,
-// and the slots `slots` to have the words `shown`, three each.
+// The machine under test, what came of its steps, and what is expected at the end.
 pub struct Bench {
     pub state: State,
     pub home: [u64; 64],
     pub working: [u64; 64],
     pub log: [u64; 256],
+    // The lengths that are lent of home, working and log.
     pub lent: [u64; 3],
+    // Of the steps since the last note: the first answer that is not 0, and the stores of all.
     pub answer: u64,
     pub made: u64,
+    // Of each note, what came out and what is expected: an answer, and stores.
     pub count: usize,
     pub answers: [u64; 32],
     pub wanted: [u64; 32],
     pub stores: [u64; 32],
     pub allowed: [u64; 32],
+    // No refused step has changed a buffer, none has changed the state, each cut and each refused recover has left the
+    // lost state, and the table's text was understood.
     pub kept: bool,
     pub kept_state: bool,
     pub left_lost: bool,
     pub known: bool,
+    // Expected at the end: the words of home and working, the log's head if it is named, three words of some slots.
     pub home_end: Expected,
     pub working_end: Expected,
     pub head_named: bool,
@@ -133,7 +134,7 @@ impl Bench {
         let h = within(self.lent[0], &home);
         let w = within(self.lent[1], &working);
         let l = within(self.lent[2], &log);
-        let r = made(
+        let r = step_by_method(
             state,
             step,
             &mut home[..h],

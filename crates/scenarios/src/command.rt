@@ -20,23 +20,25 @@ const TIMES: u64 = 0x74_69_6d_65_73;
 // What stands before the answer and the stores that are expected: no word.
 const EXPECT: u64 = 0;
 
-// `verb` is the first word, `numbers` are the `count` numbers that belong to it. Of a step: `by` thread, `in` word, how
-// many times, and with which supply. `expects` numbers are expected of it: an answer, and stores. `ended` tells that
-// the command is whole, `known` that each byte so far was understood. The others are of the reading: the word before
-// the next number, and the letters or the digits of the one that is read.
+// What has been read of a command.
 pub struct Command {
+    // The first word, and the numbers that belong to it.
     pub verb: u64,
     pub numbers: [u64; 4],
     pub count: usize,
+    // Of a step: `by` thread, `in` word, how many `times`, `with` which supply.
     pub thread: u64,
     pub word: u64,
     pub times: u64,
     pub supply: u64,
+    // How many numbers are expected of it, and these: an answer, and stores.
     pub expects: u64,
     pub answer: u64,
     pub stores: u64,
+    // The command is whole, and each byte so far was understood.
     pub ended: bool,
     pub known: bool,
+    // The word before the next number, and the letters or the digits of the one that is read.
     key: u64,
     letters: u64,
     digits: bool,
@@ -138,7 +140,7 @@ impl Command {
     }
 
     // The number or the word that was read, if any, is whole.
-    fn closed(mut self) -> Command {
+    fn finished(mut self) -> Command {
         let value = self.value;
         let letters = self.letters;
         let digits = self.digits;
@@ -160,7 +162,7 @@ impl Command {
 
     // A byte between words and numbers.
     fn divided(self, byte: u8) -> Command {
-        let mut next = self.closed();
+        let mut next = self.finished();
         match byte {
             b' ' | b'/' => {}
             b'=' => next.key = EXPECT,

@@ -1,13 +1,12 @@
-// Runs the scenarios of the table on standard input through the machine's public methods: those of document 01, and
-// further ones for each refusal and each plausible mistake. Prints a line for each: what came out beside what is
-// expected.
+// Runs the scenarios of the table on standard input through the machine's public methods, and prints a line for each:
+// what came out beside what is expected.
 mod acts;
 mod bench;
+mod by_method;
 mod changes;
 mod command;
 mod expected;
 mod lists;
-mod making;
 mod output;
 mod report;
 mod scenario;

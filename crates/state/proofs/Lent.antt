@@ -11,7 +11,7 @@ use Rattle.parts.specs.declared.Entry.{Entry}
 use Rattle.parts.specs.declared.Line.{Line}
 use Rattle.lines.specs.declared.Lines.{Lines}
 use Rattle.parts.specs.Listed.{listed}
-use Rattle.parts.specs.Lines.{freeLine}
+use Rattle.parts.specs.FreeLine.{freeLine}
 use Rattle.lines.specs.Lines.{lineAt, firstLines}
 use Rattle.parts.specs.States.{stateAt, Clean, Dirty}
 use Rattle.parts.proofs.Listed.{length-listed, getD-listed}

@@ -13,7 +13,7 @@ use Rattle.log.specs.Holding.{Every}
 use Rattle.log.proofs.Holding.{every-at}
 use Rattle.parts.specs.declared.Entry.{Entry}
 use Rattle.parts.specs.declared.Line.{Line}
-use Rattle.parts.specs.Lines.{nobody, freeLine}
+use Rattle.parts.specs.FreeLine.{nobody, freeLine}
 use Rattle.parts.specs.States.{Clean, Dirty, URLog, ULog}
 use Rattle.parts.proofs.Listed.{length-listed, getD-listed}
 use Rattle.model.specs.Lists.{keep, all, upTo, isEmpty}

@@ -11,7 +11,7 @@ use lib.Bits.{bitAnd, and-mask}
 use lib.Dec.{eqb, ltb}
 use lib.ListN.{getD}
 use lib.Pow.{pow-mono}
-use Rattle.parts.specs.Lines.{nobody}
+use Rattle.parts.specs.FreeLine.{nobody}
 use Rattle.state.specs.StateOf.{bareLine}
 use Rattle.state.specs.Linear.{lineSound, OpenBits}
 

@@ -12,7 +12,7 @@ use lib.Seq.{drop-cons, getD-set-same, getD-set-other}
 use Rattle.parts.specs.declared.Entry.{Entry}
 use Rattle.parts.specs.declared.Line.{Line}
 use Rattle.parts.specs.Listed.{listed}
-use Rattle.parts.specs.Lines.{freeLine}
+use Rattle.parts.specs.FreeLine.{freeLine}
 use Rattle.parts.specs.States.{stateAt, withState, Dirty, URLog}
 use Rattle.parts.proofs.Listed.{length-listed, getD-listed, set-listed}
 use Rattle.model.specs.Lists.{all}

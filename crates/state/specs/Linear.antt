@@ -9,7 +9,7 @@ use lib.ListN.{length, getD}
 use Rattle.log.specs.Region.{numbers}
 use Rattle.parts.specs.declared.Entry.{Entry}
 use Rattle.parts.specs.declared.Line.{Line}
-use Rattle.parts.specs.Lines.{nobody}
+use Rattle.parts.specs.FreeLine.{nobody}
 use Rattle.parts.specs.States.{Clean, Dirty, URLog, ULog}
 use Rattle.model.specs.Lists.{all}
 use Rattle.model.specs.Machine.{Machine, stateIn, holderIn, marked}

@@ -1,6 +1,5 @@
--- The state of which the parts are lent: of a line its holder and its words' states, of an entry its thread and its
--- word. No clause of a consistent state asks for more: the dirty flags and the values are false and 0 here, and the
--- state is not lost.
+-- The state by the parts that the clauses of a consistent one look at: of a line its holder and its words' states, of
+-- an entry its thread and word. Its dirty flags and values are false and 0, and it is not lost.
 use Prim.Native.Nat.{ℕ}
 use mathlib.Core.Bool.{Bool, false}
 use mathlib.Core.List.{List, []}

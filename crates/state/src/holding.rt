@@ -6,6 +6,7 @@ ghost use Prim.Native.Nat.{_≤_};
 ghost use Rattle.model.specs.Lists.{all};
 ghost use Rattle.state.specs.StateOf.{bareLine, linesLent};
 ghost use Rattle.state.specs.Linear.{lineSound, OpenBits};
+use lines::NOBODY;
 
 fn bit(set: bool) -> u32
     ensures { λ r. ⌜ r ≡ cond set 1 0 ⌝ }
@@ -32,7 +33,7 @@ fn line_sound(bits: u32, holder: u8, states: u16) -> bool
 {
     let thread = (holder % 8) as u32;
     let held = (holder < 8) & ((bits >> thread) & 1 == 1);
-    let free = (holder == 255) & (states == 0);
+    let free = (holder == NOBODY) & (states == 0);
     held | free
 }
 

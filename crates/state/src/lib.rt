@@ -1,5 +1,5 @@
-// The state by its fields, what a step hands back, and what every step shares: the buffers that it is lent, the lost
-// state and the way out of a cut.
+// The state by its fields, what a step hands back, and what every step shares: the test of a consistent state, that of
+// the lent lengths, the lost state and the way out of a cut.
 use buffers::RedoBuffer;
 use buffers::UndoBuffer;
 use lines::Lines;

@@ -40,7 +40,7 @@ use Rattle.state.specs.declared.Machine.{Machine}
 use Rattle.state.specs.View.{view, memory}
 use Rattle.steps.specs.Committing.{HasEntries, Allowed}
 use Rattle.steps.proofs.Outcome.{width, common-fit}
-use Rattle.steps.proofs.Appending.{AppendWay}
+use Rattle.steps.proofs.AppendWays.{AppendWay}
 
 -- the number of records that a commit logs
 pub commit-size : (m : Model) (mem : Memory) (t : ℕ)

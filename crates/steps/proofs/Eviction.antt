@@ -7,6 +7,7 @@ use native.Mathlib.Omega.{arith}
 use borrow.Author.Tests.{lt-ltb, ltb-true, eqb-true}
 use lib.Dec.{eqb, ltb}
 use lib.ListN.{length, getD, set, drop, length-map}
+use lib.Seq.{set-getD}
 use Rattle.parts.specs.declared.Entry.{Entry}
 use Rattle.buffers.specs.declared.RedoBuffer.{RedoBuffer}
 use Rattle.parts.specs.declared.Line.{Line}
@@ -17,7 +18,7 @@ use Rattle.parts.specs.States.{stateAt, ULog}
 use Rattle.buffers.specs.Waiting.{waitingOf, redosWaiting}
 use Rattle.buffers.proofs.Waiting.{redoAt}
 use Rattle.parts.proofs.Listed.{length-listed, getD-listed}
-use Rattle.parts.specs.Lines.{nobody}
+use Rattle.parts.specs.FreeLine.{nobody}
 use Rattle.log.proofs.Holding.{every-at}
 use Rattle.parts.proofs.Oldest.{length-oldest}
 use Rattle.lines.proofs.FirstLines.{WholeLines}
@@ -34,13 +35,13 @@ use Rattle.model.proofs.Rows.{None, none-apply, own-refusals, room}
 use Rattle.lines.specs.Walks.{ulogWords}
 use Rattle.buffers.specs.Filled.{refilled, keysIn, valuesIn}
 use Rattle.buffers.proofs.Refilled.{ulogEntry, entries-refilled}
-use Rattle.lines.proofs.WordStates.{withStates, state-put}
+use Rattle.lines.proofs.WordStates.{withStates}
 use Rattle.lines.proofs.LineWords.{keep-below}
 use Rattle.log.specs.Appended.{Appended}
 use Rattle.state.specs.declared.Machine.{Machine}
 use Rattle.state.specs.View.{view}
-use Rattle.steps.proofs.Outcome.{common-narrow, Comes}
-use Rattle.steps.proofs.Appending.{appended-of, AppendWay, append-done}
+use Rattle.steps.proofs.Outcome.{common-narrow, withParts, Comes}
+use Rattle.steps.proofs.AppendWays.{appended-of, AppendWay, append-done}
 use Rattle.steps.proofs.LoggingOldest.{WholeRedos}
 use Rattle.steps.proofs.LineRows.{LineFit, line-fit, lineNumber, line-number}
 
@@ -53,25 +54,9 @@ clean-keep = refl
 abbrev pub lackingIn : ℕ → List ℕ → ℕ → ℕ
 lackingIn len states i = len + length (ulogWords (getD states (i % 64) 0)) - 32
 
--- the states of line i replaced in place
-states-lines : (n : ℕ) (ls : Lines) (i k : ℕ) (ss : List ℕ) → WholeLines ls → n ≤ 64 → ss ≡ set (ls .states) i k
-    → firstLines n (withStates ss ls) ≡ changed (statesAs k) i (firstLines n ls)
-states-lines n ls i k ss whole h e = rw e (ap (firstLines n) (sym (state-put ls i k)) ∙ first-changed (statesAs k) n ls i whole h)
-
 -- the state that the code makes: other redo entries, other states of the lines, and the tail past `count` records
 abbrev pub setDown : Machine → ℕ → RedoBuffer → List ℕ → Machine
-setDown s count grown ss =
-    record {
-      lost = s .lost;
-      words = s .words;
-      slots = s .slots;
-      head = s .head;
-      tail = s .tail + count;
-      opened = s .opened;
-      lines = withStates ss (s .lines);
-      undos = s .undos;
-      redos = grown;
-    }
+setDown s count grown ss = withParts s (s .tail + count) (withStates ss (s .lines)) (s .undos) grown
 
 -- what is true of all lines is true of one in use
 line-passes : (f : Line → Bool) (n : ℕ) (ls : Lines) → all f (firstLines n ls) ≡ true → (i : ℕ) → i < n → f (lineAt ls i) ≡ true
@@ -166,7 +151,7 @@ module _ (s : Machine) (i : ℕ) (below : i < s .words / 8) where
         let lines : List Line = changed (statesAs 0) i (view s .lines) in
         let redos : List Entry = drop count (view s .buffers .redo) ++ evicted (view s) mem i in
         ap₂ (λ (ls : List Line) (es : List Entry). withTail (s .tail + count) (withLines ls (withRedo es (view s))))
-        (states-lines (s .words / 8) (s .lines) i 0 ss whole (omega arith) clean) more
+        (first-changed (statesAs 0) (s .words / 8) (s .lines) (withStates ss (s .lines)) i (rw clean (simp set-getD)) whole (omega arith)) more
         ∙ ap (λ (k : ℕ). withTail (s .tail + k) (withLines lines (withRedo redos (view s))))
         (sym (length-oldest redoRecord count (s .redos .len) (redoAt (s .redos)) within))
 

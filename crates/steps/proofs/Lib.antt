@@ -1,9 +1,8 @@
 -- Laws that the proofs of the functions share.
 pub mod Outcome
-pub mod Appending
+pub mod AppendWays
 pub mod LoggingOldest
 pub mod DeleteStep
-pub mod LineWords
 pub mod LineRows
 pub mod WritingBack
 pub mod Eviction

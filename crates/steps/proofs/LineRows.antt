@@ -18,7 +18,7 @@ use Rattle.model.proofs.Fit.{Fit}
 use Rattle.state.specs.declared.Machine.{Machine}
 use Rattle.state.specs.View.{view}
 use Rattle.steps.proofs.Outcome.{common-fit, common-narrow}
-use Rattle.steps.proofs.LineWords.{any-below}
+use Rattle.lines.proofs.LineWords.{any-below}
 
 -- what such a step knows where no row applies
 pub record LineFit (m : Model) (mem : Memory) (i : ℕ) : Type 0 where

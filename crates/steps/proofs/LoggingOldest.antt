@@ -10,7 +10,6 @@ use Rattle.log.specs.Region.{numbers}
 use Rattle.parts.specs.declared.Entry.{Entry}
 use Rattle.buffers.specs.declared.RedoBuffer.{RedoBuffer}
 use Rattle.buffers.specs.declared.UndoBuffer.{UndoBuffer}
-use Rattle.lines.specs.declared.Lines.{Lines}
 use Rattle.parts.specs.Listed.{listed}
 use Rattle.buffers.specs.Arrays.{removed}
 use Rattle.buffers.specs.Waiting.{waitingOf, undosWaiting, redosWaiting}
@@ -22,16 +21,19 @@ use Rattle.parts.proofs.Listed.{length-listed}
 use Rattle.model.specs.Lists.{isEmpty}
 use Rattle.model.specs.Machine.{Machine as Model, Memory}
 use Rattle.model.specs.Refusals.{Row, row, numberOf, nothing, noRoom, common}
+use Rattle.model.specs.Plan.{append}
 use Rattle.model.specs.Steps.{undoRedoRecord, undosLogged, oldestRows}
+use Rattle.model.specs.Step.{Step}
 use Rattle.buffers.specs.Records.{statesLogged}
 use Rattle.lines.proofs.WordStates.{withStates}
 use Rattle.buffers.proofs.LoggedLines.{logged-lines}
 use Rattle.model.proofs.Lists.{every-right}
-use Rattle.model.proofs.Rows.{none-apply, number-then, number-more, no-records, oldest-refusals, Room, oldest-room}
-use Rattle.model.proofs.Fit.{Clauses, Fit}
+use Rattle.model.proofs.Rows.{none-apply, number-then, number-more, no-records, oldest-refusals, oldest-room}
+use Rattle.model.proofs.Fit.{Clauses}
 use Rattle.state.specs.declared.Machine.{Machine}
 use Rattle.state.specs.View.{view}
-use Rattle.steps.proofs.Outcome.{common-fit, common-narrow}
+use Rattle.steps.proofs.Outcome.{common-fit, common-narrow, withParts, Way}
+use Rattle.steps.proofs.AppendWays.{AppendWay}
 
 -- there are 16 places for each field of an undo+redo buffer, and 32 of a redo buffer
 abbrev pub WholeUndos : UndoBuffer → Type 0
@@ -72,21 +74,6 @@ module _ (k : ℕ) (ks vs : List ℕ) where
       → vs ≡ removed 0 k (b .len) (b .redos) → waitingOf (b .len - k) ks [] vs ≡ drop k (redosWaiting b)
   redos-rest b whole some short e v = rw (e, v) (redos-dropped 32 (b .len) (b .keys) (b .redos) short whole k some)
 
--- the state with k records more, and with other lines and buffers
-abbrev pub withLogged : Machine → ℕ → Lines → UndoBuffer → RedoBuffer → Machine
-withLogged s k lines undos redos =
-    record {
-      lost = s .lost;
-      words = s .words;
-      slots = s .slots;
-      head = s .head;
-      tail = s .tail + k;
-      opened = s .opened;
-      lines = lines;
-      undos = undos;
-      redos = redos;
-    }
-
 -- a list that is not empty
 some-oldest : (records : List Record) → isEmpty records ≡ false → 1 ≤ length records
 some-oldest [] e = absurd (false≢true (sym e))
@@ -97,29 +84,27 @@ pub in-log : (m : Model) (mem : Memory) → numberOf (common m mem) ≡ 0
     → (m .span .head ≤ m .span .tail) × ((m .span .tail ≤ m .span .head + m .sizes .slots) × (m .span .tail ≤ numbers))
 in-log m mem sound = let d = common-fit m mem sound .clauses in (d .order, (d .span, d .tail))
 
--- What is known once such a step is not refused.
-pub record Known (m : Model) (mem : Memory) (places n : ℕ) (records : List Record) : Type 0 where
-  pub fits : Fit m mem
-  pub room : Room m (length records)
+-- What is known once such a step is not refused: it appends the record, and so on.
+pub record Known (step : Step) (m : Model) (mem : Memory) (places n : ℕ) (records : List Record) (next : Model) : Type 0 where
+  pub appends : AppendWay step m mem records next (mem .working)
   pub one : length records ≡ 1
   pub some : 1 ≤ n
   pub short : n ≤ places
   pub narrow : m .sizes .words ≤ 512
 
--- it follows from the number 0
-pub known : (f : Entry → Record) (places n : ℕ) (at : ℕ → Entry) (m : Model) (mem : Memory) (k : ℕ)
-    → (Clauses m → length (listed n at) ≤ places) → numberOf (common m mem) ≡ 0 → k ≡ numberOf (oldestRows m mem (oldest f n at)) → k ≡ 0
-    → Known m mem places n (oldest f n at)
-known f places n at m mem k size sound e zero =
+-- it follows where no row applies
+pub known : (step : Step) (f : Entry → Record) (places n : ℕ) (at : ℕ → Entry) (m : Model) (mem : Memory) (next : Model)
+    → (Clauses m → length (listed n at) ≤ places) → numberOf (common m mem) ≡ 0 → numberOf (oldestRows m mem (oldest f n at)) ≡ 0
+    → Way step m mem (map append (oldest f n at)) next (mem .working) → Known step m mem places n (oldest f n at) next
+known step f places n at m mem next size sound own way =
     let records : List Record = oldest f n at in
-    let none = none-apply (oldestRows m mem records) (oldest-refusals m mem records) (sym e ∙ zero) in
+    let none = none-apply (oldestRows m mem records) (oldest-refusals m mem records) own in
     let fits = common-fit m mem sound in
     let last = every-right (λ (r : Row). r .applies ≡ false) (noRoom m mem (length records)) (row (isEmpty records) nothing ∷ []) none in
     let some : 1 ≤ length records = some-oldest records (last .0) in
     let count : length records ≡ min 1 n = count-oldest f n at in
     record {
-      fits = fits;
-      room = oldest-room m mem records none;
+      appends = record { way = way; fits = fits; room = oldest-room m mem records none };
       one = omega arith;
       some = omega arith;
       short = omega (arith, size (fits .clauses), length-listed n at);
@@ -128,7 +113,7 @@ known f places n at m mem k size sound e zero =
 
 -- the state whose k oldest undo+redo entries are logged, changed in place
 abbrev pub undosGone : Machine → ℕ → List ℕ → UndoBuffer → Machine
-undosGone s k ss rest = withLogged s k (withStates ss (s .lines)) rest (s .redos)
+undosGone s k ss rest = withParts s (s .tail + k) (withStates ss (s .lines)) rest (s .redos)
 
 -- their words are marked, the others wait, and the tail is past their records
 pub undos-gone : (s : Machine) (k : ℕ) (ss : List ℕ) (rest : UndoBuffer) → WholeLines (s .lines) → length (s .undos .keys) ≡ 16

@@ -8,6 +8,9 @@ use lib.Dec.{leb, eqb}
 use lib.ListN.{length, take}
 use lib.Seq.{take-all}
 use Rattle.log.specs.Region.{slotsOf}
+use Rattle.buffers.specs.declared.RedoBuffer.{RedoBuffer}
+use Rattle.buffers.specs.declared.UndoBuffer.{UndoBuffer}
+use Rattle.lines.specs.declared.Lines.{Lines}
 use Rattle.model.specs.Machine.{Machine as Model, Memory, lostMachine}
 use Rattle.model.specs.Consistent.{isWidth}
 use Rattle.model.specs.Plan.{Op, Put, putsOf, planned, Outcome as ModelOutcome, written}
@@ -46,6 +49,21 @@ module _ (m : Model) (mem : Memory) (zero : numberOf (common m mem) ≡ 0) where
 
   pub common-narrow : m .sizes .words ≤ 512
   common-narrow = width (m .sizes .words) (common-fit .clauses .width) .most
+
+-- the machine with another tail, other lines and other buffers
+abbrev pub withParts : Machine → ℕ → Lines → UndoBuffer → RedoBuffer → Machine
+withParts s tail lines undos redos =
+    record {
+      lost = s .lost;
+      words = s .words;
+      slots = s .slots;
+      opened = s .opened;
+      lines = lines;
+      head = s .head;
+      undos = undos;
+      tail = tail;
+      redos = redos;
+    }
 
 -- what a cut hands back
 abbrev pub IsCut : Outcome → Type 0

@@ -1,6 +1,6 @@
 -- A store's parts: the entry that is logged first, what is stored by the word's state, and the state after them.
 use Prim.Native.Nat.{ℕ, zero, suc, _+_, _-_, _/_, _≤_, _<_, min}
-use mathlib.Core.Path.{_≡_, refl, sym, _∙_, ap}
+use mathlib.Core.Path.{_≡_, refl, _∙_, ap}
 use mathlib.Core.Bool.{Bool, true, false, cond, _&&_, not}
 use mathlib.Core.List.{List, [], _∷_, _++_}
 use native.Mathlib.Omega.{arith}
@@ -13,7 +13,7 @@ use Rattle.buffers.specs.declared.UndoBuffer.{UndoBuffer}
 use Rattle.buffers.specs.declared.RedoBuffer.{RedoBuffer}
 use Rattle.parts.specs.declared.Line.{Line}
 use Rattle.lines.specs.declared.Lines.{Lines}
-use Rattle.lines.specs.Lines.{lineAt, firstLines, putLine}
+use Rattle.lines.specs.Lines.{firstLines}
 use Rattle.parts.specs.States.{Clean, Dirty, ULog}
 use Rattle.buffers.specs.Arrays.{removed}
 use Rattle.buffers.specs.Keys.{keyOf}
@@ -149,25 +149,21 @@ pub redos-kept : (b : RedoBuffer) (w at : ℕ) (ks vs : List ℕ) → WholeRedos
     → ks ≡ removed at 1 (b .len) (b .keys) → vs ≡ removed at 1 (b .len) (b .redos) → waitingOf (b .len - 1) ks [] vs ≡ discarded w (redosWaiting b)
 redos-kept b w at ks vs whole short below e k v = rw (k, v) (redos-discarded 32 (b .len) (b .keys) (b .redos) short whole w at below e)
 
+-- the lines with other holders and dirty flags
+abbrev pub withHolders : List ℕ → List Bool → Lines → Lines
+withHolders hs ds ls = record { holders = hs; dirty = ds; states = ls .states }
+
 -- the lines whose line i is claimed by thread t, the arrays being changed in place
 module _ (n : ℕ) (ls : Lines) (i t : ℕ) (hs : List ℕ) (whole : WholeLines ls) (h : n ≤ 64) (held : hs ≡ set (ls .holders) i t) where
-  pub held-lines : firstLines n (record { holders = hs; dirty = ls .dirty; states = ls .states }) ≡ changed (heldBy t) i (firstLines n ls)
-  held-lines = rw held (ap (firstLines n) (sym held-put) ∙ first-changed (heldBy t) n ls i whole h)
-    where
-      held-put : putLine ls i (heldBy t (lineAt ls i)) ≡ record { holders = set (ls .holders) i t; dirty = ls .dirty; states = ls .states }
-      held-put = simp set-getD
+  pub held-lines : firstLines n (withHolders hs (ls .dirty) ls) ≡ changed (heldBy t) i (firstLines n ls)
+  held-lines = first-changed (heldBy t) n ls (withHolders hs (ls .dirty) ls) i (rw held (simp set-getD)) whole h
 
   module _ (ds : List Bool) (dirty : ds ≡ set (ls .dirty) i true) where
-    pub dirty-lines : firstLines n (record { holders = hs; dirty = ds; states = ls .states })
-        ≡ changed (λ line. dirtyAs true (heldBy t line)) i (firstLines n ls)
+    pub dirty-lines : firstLines n (withHolders hs ds ls) ≡ changed (λ line. dirtyAs true (heldBy t line)) i (firstLines n ls)
     dirty-lines =
-        rw (held, dirty) (ap (firstLines n) (sym dirty-put) ∙ first-changed (λ line. dirtyAs true (heldBy t line)) n ls i whole h)
-      where
-        dirty-put : putLine ls i (dirtyAs true (heldBy t (lineAt ls i)))
-            ≡ record { holders = set (ls .holders) i t; dirty = set (ls .dirty) i true; states = ls .states }
-        dirty-put = simp set-getD
+        first-changed (λ line. dirtyAs true (heldBy t line)) n ls (withHolders hs ds ls) i (rw (held, dirty) (simp set-getD)) whole h
 
-    pub whole-dirty : WholeLines (record { holders = hs; dirty = ds; states = ls .states })
+    pub whole-dirty : WholeLines (withHolders hs ds ls)
     whole-dirty =
         record {
           holders = ap length held ∙ simp length-set (whole .holders);

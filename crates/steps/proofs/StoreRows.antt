@@ -17,7 +17,7 @@ use Rattle.model.proofs.Fit.{Fit}
 use Rattle.state.specs.declared.Machine.{Machine}
 use Rattle.state.specs.View.{view}
 use Rattle.steps.proofs.Outcome.{Width, width, common-fit}
-use Rattle.steps.proofs.Appending.{AppendWay}
+use Rattle.steps.proofs.AppendWays.{AppendWay}
 use Rattle.steps.proofs.StoreParts.{logs-most, undos-length}
 
 -- whether thread and word are known, the rows that are looked at first

@@ -1,6 +1,6 @@
 -- A line written back: what the step hands back when it is cut or done.
 use Prim.Native.Nat.{ℕ, _+_, _-_, _*_, _/_, _≤_, _<_}
-use mathlib.Core.Path.{_≡_, refl, sym, ap, _∙_}
+use mathlib.Core.Path.{_≡_, refl, ap, _∙_}
 use mathlib.Core.Bool.{Bool, false}
 use mathlib.Core.List.{List, [], map}
 use native.Mathlib.Omega.{arith}
@@ -10,10 +10,9 @@ use Rattle.log.specs.Stores.{Store, storedUnder}
 use Rattle.log.specs.Region.{slotsOf}
 use Rattle.parts.specs.declared.Line.{Line}
 use Rattle.lines.specs.declared.Lines.{Lines}
-use Rattle.lines.specs.Lines.{lineAt, firstLines, putLine}
 use Rattle.parts.proofs.Listed.{length-listed}
 use Rattle.lines.proofs.FirstLines.{WholeLines}
-use Rattle.model.specs.Machine.{Memory, wordsOf, withLines, changed, dirtyAs}
+use Rattle.model.specs.Machine.{Memory, wordsOf, withLines, dirtyAs}
 use Rattle.model.specs.Plan.{inHome, writeHome, putsOf, written}
 use Rattle.model.specs.Refusals.{numberOf, common}
 use Rattle.model.specs.Steps.{lineRows, lineWrites, writeBackNext}
@@ -26,34 +25,14 @@ use Rattle.lines.proofs.LineStores.{stores-there}
 use Rattle.state.specs.declared.Machine.{Machine}
 use Rattle.state.specs.declared.Outcome.{Outcome}
 use Rattle.state.specs.View.{view}
-use Rattle.steps.proofs.Outcome.{IsCut, Comes, Way, done-way, cut-way}
+use Rattle.steps.proofs.Outcome.{withParts, IsCut, Comes, Way, done-way, cut-way}
 use Rattle.steps.proofs.LineRows.{LineFit, line-fit, line-there}
 
--- the lines with other dirty flags, and the state with these lines
-abbrev withFlags : List Bool → Lines → Lines
-withFlags ds ls = record { holders = ls .holders; dirty = ds; states = ls .states }
-
+-- the state with other dirty flags
 abbrev flagsReplaced : Machine → List Bool → Machine
 flagsReplaced s ds =
-    record {
-      lost = s .lost;
-      words = s .words;
-      slots = s .slots;
-      head = s .head;
-      tail = s .tail;
-      opened = s .opened;
-      lines = withFlags ds (s .lines);
-      undos = s .undos;
-      redos = s .redos;
-    }
-
--- the flag of line i replaced in place
-flag-lines : (n : ℕ) (ls : Lines) (i : ℕ) (d : Bool) (ds : List Bool) → WholeLines ls → n ≤ 64 → ds ≡ set (ls .dirty) i d
-    → firstLines n (withFlags ds ls) ≡ changed (dirtyAs d) i (firstLines n ls)
-flag-lines n ls i d ds whole h e = rw e (ap (firstLines n) (sym flag-put) ∙ first-changed (dirtyAs d) n ls i whole h)
-  where
-    flag-put : putLine ls i (dirtyAs d (lineAt ls i)) ≡ withFlags (set (ls .dirty) i d) ls
-    flag-put = simp set-getD
+    let flagged : Lines = record { holders = s .lines .holders; dirty = ds; states = s .lines .states } in
+    withParts s (s .tail) flagged (s .undos) (s .redos)
 
 -- What the step hands back once it is not refused.
 module _ (i c : ℕ) (s : Machine) (mem : Memory) (zero : numberOf (common (view s) mem) ≡ 0) (none : numberOf (lineRows (view s) i) ≡ 0) where
@@ -89,7 +68,8 @@ module _ (i c : ℕ) (s : Machine) (mem : Memory) (zero : numberOf (common (view
         let narrow = write-fit .narrow in
         done-way way c r home (mem .log) (rw (made, length-map, eight) h) answer (left ∙ ap (λ (ss : List Store). c - length ss) there ∙ (rw (made, length-map writes inHome)))
         (ap view state
-        ∙ ap (λ (ls : List Line). withLines ls (view s)) (flag-lines (s .words / 8) (s .lines) i false flags whole (omega arith) cleared))
+        ∙ ap (λ (ls : List Line). withLines ls (view s))
+        (first-changed (dirtyAs false) (s .words / 8) (s .lines) (flagsReplaced s flags .lines) i (rw cleared (simp set-getD)) whole (omega arith)))
         (left-by (mem .working))
 
     -- cut: it was not

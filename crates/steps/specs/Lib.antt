@@ -1,3 +1,3 @@
--- What the code's steps mean, and what the functions of each step compute.
+-- What the functions of the steps are handed, and what they ask of it.
 pub mod Committing
-pub mod Steps
+pub mod LentParts

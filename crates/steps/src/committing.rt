@@ -1,5 +1,5 @@
-// "Commit t: logs the whole undo+redo buffer, the whole redo buffer, then a redo record of the working value for each
-// ULog word in lines held by t, rising, then the commit record; .. lines held by t become unheld and all Clean".
+// "Commit t": both buffers are logged, then the newest values of t's ULog words and the commit record; "lines held by t
+// become unheld and all Clean, and the transaction closes".
 ghost use mathlib.Core.Path.{_≡_};
 ghost use mathlib.Core.Bool.{false};
 ghost use mathlib.Core.List.{List};
@@ -13,7 +13,7 @@ ghost use Rattle.model.specs.Step.{commit, stepped};
 ghost use Rattle.state.specs.View.{view, memory, shown};
 ghost use Rattle.state.specs.HandedBack.{HandedBack};
 ghost use Rattle.steps.specs.Committing.{HasEntries, Allowed};
-ghost use Rattle.steps.specs.Steps.{TakenOut, LogOf};
+ghost use Rattle.steps.specs.LentParts.{TakenOut, LogOf};
 use crate::arrays::is_open;
 use crate::refusals::no_room;
 use crate::refusals::refuse;

@@ -11,7 +11,7 @@ ghost use Rattle.model.specs.Steps.{oldestRows};
 ghost use Rattle.model.specs.Step.{logUndo, logRedo, stepped};
 ghost use Rattle.state.specs.View.{view, memory, shown};
 ghost use Rattle.state.specs.HandedBack.{HandedBack};
-ghost use Rattle.steps.specs.Steps.{LogOf};
+ghost use Rattle.steps.specs.LentParts.{LogOf};
 use crate::refusals::no_room;
 use crate::refusals::refused;
 use buffers::RedoBuffer;

@@ -7,7 +7,7 @@ ghost use Rattle.model.specs.Machine.{Machine as Model, Memory};
 ghost use Rattle.model.specs.Consistent.{consistent};
 ghost use Rattle.model.specs.Refusals.{numberOf, noRoom, common as commonRows};
 ghost use Rattle.state.specs.View.{memory};
-ghost use Rattle.steps.specs.Steps.{LogOf};
+ghost use Rattle.steps.specs.LentParts.{LogOf};
 use crate::sizes::wrong_size;
 use log::NUMBERS;
 use state::EXHAUSTED;

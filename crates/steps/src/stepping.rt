@@ -6,7 +6,7 @@ ghost use Rattle.model.specs.Refusals.{numberOf};
 ghost use Rattle.model.specs.Step.{takesState, firstRows, stepped};
 ghost use Rattle.state.specs.View.{view, memory, shown};
 ghost use Rattle.state.specs.HandedBack.{HandedBack, takenFields};
-ghost use Rattle.steps.specs.Steps.{TakenOut};
+ghost use Rattle.steps.specs.LentParts.{TakenOut};
 use crate::beginning::begun;
 use crate::committing::committed;
 use crate::deleting::deleted;

@@ -6,7 +6,7 @@ ghost use Prim.Native.Nat.{ℕ, _+_, _/_, _%_, _≤_, _<_};
 ghost use lib.Dec.{eqb};
 ghost use lib.ListN.{getD};
 ghost use Rattle.log.specs.Region.{numbers};
-ghost use Rattle.parts.specs.Lines.{nobody};
+ghost use Rattle.parts.specs.FreeLine.{nobody};
 ghost use Rattle.lines.specs.Lines.{firstLines};
 ghost use Rattle.model.specs.Machine.{Machine as Model, Memory, holderIn};
 ghost use Rattle.model.specs.Refusals.{numberOf, row, idle as idleNumber, held, noRoom};
@@ -15,7 +15,7 @@ ghost use Rattle.model.specs.Step.{store, stepped};
 ghost use Rattle.model.specs.Steps.{storeLogs, storeNext};
 ghost use Rattle.state.specs.View.{view, memory, shown};
 ghost use Rattle.state.specs.HandedBack.{HandedBack};
-ghost use Rattle.steps.specs.Steps.{TakenOut, LogOf};
+ghost use Rattle.steps.specs.LentParts.{TakenOut, LogOf};
 use crate::arrays::is_open;
 use crate::arrays::put_flag;
 use crate::arrays::put_holder;
@@ -35,6 +35,7 @@ use buffers::push_value;
 use lines::CLEAN;
 use lines::DIRTY;
 use lines::Lines;
+use lines::NOBODY;
 use lines::U_LOG;
 use lines::UR_LOG;
 use lines::mark;
@@ -55,8 +56,8 @@ fn held_by_another(holders: &[u8; 64], thread: u64, word: u16) -> bool
         → r ≡ (not (eqb (holderIn (firstLines n ls) word) nobody) && not (eqb (holderIn
         (firstLines n ls) word) thread))) ⌝ }
 {
-    let holder = holder_of(holders, word) as u64;
-    (holder != 255) & (holder != thread)
+    let holder = holder_of(holders, word);
+    (holder != NOBODY) & (holder as u64 != thread)
 }
 
 // How many entries a store logs first: the oldest, if another value comes to a Clean word and 16 entries wait.

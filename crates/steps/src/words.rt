@@ -5,7 +5,7 @@ ghost use Rattle.lines.specs.Lines.{firstLines};
 ghost use Rattle.model.specs.Machine.{stateIn, holderIn};
 use lines::Lines;
 
-// The state of a word, by the states of the lines; n is the number of lines in use.
+// The state of a word, by the states of the 64 lines.
 pub(crate) fn state_of(states: &[u16; 64], word: u16) -> u64
     requires { ⌜ word < 512 ⌝ }
     ensures { λ r. ⌜ ((ls : Lines) → ls .states ≡ now (states .entry) → (n : ℕ) → word / 8 < n → r

@@ -1,4 +1,4 @@
-// "Write home a line: .. its 8 working words are stored, rising, and the dirty flag is cleared."
+// "Write home a line: its 8 working words are stored, rising; the dirty flag is cleared."
 ghost use mathlib.Core.Path.{_≡_};
 ghost use mathlib.Core.Bool.{cond};
 ghost use Prim.Native.Nat.{_/_, _%_};

@@ -1,21 +1,18 @@
--- What a user can rely on, a theorem each. A statement stands in specs/ of the crate that its `use` names; the proof is cited.
-use mathlib.Core.Path.{_≡_}
-use mathlib.Core.Bool.{true}
-use Rattle.model.specs.Lists.{all}
-use Rattle.model.specs.Scenarios.{scenarios, passes}
+-- What a user can rely on, a theorem each: its statement stands in specs/ of the crate that its `use` names.
+use Rattle.model.specs.Scenarios.{ScenariosClaim}
 use Rattle.model.specs.Run.{WholeListClaim, RecoverableClaim}
 use Rattle.model.proofs.Scenarios as table
 use Rattle.model.proofs.WholeList as list
 use Rattle.runner.specs.Claim.{CodeClaim, HandedBackClaim}
 use Rattle.runner.proofs.Claim as code
 
--- Of every list of steps that begins with a recovery, refused and cut steps included, a cut after any single store, also
--- inside a recovery: after every recovery answered done, home equals the account book.
+-- Of every list of steps that begins with a recovery, refused and cut steps included, a cut after any single store,
+-- also inside a recovery: after every recovery answered done, home equals the account book.
 pub whole-list : WholeListClaim
 whole-list = list.whole-list
 
--- After any such list a recovery is done or cut and never refused, with a supply of L+1 it is done, and the state handed
--- back last is lost or consistent.
+-- After any such list a recovery is done or cut and never refused, with a supply of L+1 it is done, and the state
+-- handed back last is lost or consistent.
 pub always-recoverable : RecoverableClaim
 always-recoverable = list.always-recoverable
 
@@ -27,6 +24,6 @@ each-recovery = code.code-claim
 pub handed-back : HandedBackClaim
 handed-back = code.handed-back
 
--- P1 to P11 of document 01 come out as it says.
-pub worked-scenarios : all passes scenarios ≡ true
+-- P1 to P11 of document 01, "Plausible, and wrong", and some edges come out as it says.
+pub worked-scenarios : ScenariosClaim
 worked-scenarios = table.scenarios-pass

@@ -9,7 +9,7 @@ use Rattle.model.specs.Step.{begin, stepped}
 use Rattle.model.proofs.Outcomes.{begin-alone, begin-uncut}
 use Rattle.machine.specs.declared.State.{State}
 use Rattle.machine.specs.declared.Answer.{Answer}
-use Rattle.machine.specs.View.{view, shown, opening, HandedBack}
+use Rattle.machine.specs.Answers.{view, shown, opening, HandedBack}
 use Rattle.machine.proofs.State.begin.Statement.{statement}
 use Rattle.machine.proofs.State.begin.Tie as tie
 

@@ -2,7 +2,7 @@
 use mathlib.Core.Path.{ap}
 use borrow.Author.Needs.{needs}
 use Rattle.state.specs.declared.Machine.{Machine}
-use Rattle.machine.specs.View.{lostState}
+use Rattle.machine.specs.Answers.{lostState}
 use Rattle.machine.proofs.Around.{around}
 use Rattle.machine.proofs.State.recover.Statement.{statement}
 use Rattle.machine.proofs.State.recover.Tie as tie

@@ -8,10 +8,10 @@ use Rattle.random_lists.proofs.playing.play.Statement.{statement}
 use Rattle.random_lists.proofs.playing.play.Tie as tie
 
 abbrev Inv-loop : tie.InvT-loop
-Inv-loop home₀ working₀ log₀ game₀ score₀ left₀ home working log game score left = (length home ≡ 512) × ((length working ≡ 512) × (length log ≡ 3073))
+Inv-loop home₀ working₀ log₀ list₀ score₀ left₀ home working log list score left = (length home ≡ 512) × ((length working ≡ 512) × (length log ≡ 3073))
 
 abbrev μ-loop : tie.MeasureT-loop
-μ-loop home₀ working₀ log₀ game₀ score₀ left₀ home working log game score left = left
+μ-loop home₀ working₀ log₀ list₀ score₀ left₀ home working log list score left = left
 
 slice-aggregate-stepped : tie.Need-slice-aggregate-stepped Inv-loop μ-loop
 slice-aggregate-stepped c = counted (c .before .lent-in .result .home) 512 (c .before .before .before .before .loop .home)

@@ -30,10 +30,10 @@ loop-again c =
     _
     (turn .before .loop .inv)
     (turn .loop-test .taken)
-    (c .before .before .before .before .redo-at .result)
-    (c .before .before .before .before .redo-at .ensures)
-    (c .before .before .make .ensures .0)
-    (c .before .before .make .ensures .1)
+    (c .before .before .before .before .effect-at .result)
+    (c .before .before .before .before .effect-at .ensures)
+    (c .before .before .store-if .ensures .0)
+    (c .before .before .store-if .ensures .1)
 
 returns : tie.Need-returns Inv-loop μ-loop
 returns c =

@@ -30,10 +30,10 @@ loop-again c =
     _
     (turn .before .loop .inv)
     (turn .loop-test .taken)
-    (c .before .before .before .before .undo-at .result)
-    (c .before .before .before .before .undo-at .ensures)
-    (c .before .before .make .ensures .0)
-    (c .before .before .make .ensures .1)
+    (c .before .before .before .before .effect-at .result)
+    (c .before .before .before .before .effect-at .ensures)
+    (c .before .before .store-if .ensures .0)
+    (c .before .before .store-if .ensures .1)
 
 same-length : tie.Need-same-length Inv-loop μ-loop
 same-length c =

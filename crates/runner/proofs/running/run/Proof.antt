@@ -10,7 +10,7 @@ use lib.ListN.{length, length-set}
 use Rattle.model.specs.Plan.{Outcome}
 use Rattle.model.specs.Step.{stepped}
 use Rattle.model.specs.Run.{Timed}
-use Rattle.machine.specs.View.{view, shown}
+use Rattle.machine.specs.Answers.{view, shown}
 use Rattle.state.specs.View.{memory}
 use Rattle.runner.specs.Running.{Script, script, timedAt, runnable, atFirst, reported}
 use Rattle.runner.proofs.StepsMade.{left-of, Alike, alike, Upto, upto-none, upto-more, upto-all, may-run, run-made, run-refused}

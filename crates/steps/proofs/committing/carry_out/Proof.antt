@@ -22,7 +22,7 @@ use Rattle.log.specs.Appended.{Appended}
 use Rattle.log.proofs.Appended.{appended-one, appended-length}
 use Rattle.state.specs.View.{view, memory}
 use Rattle.steps.specs.Committing.{Allowed}
-use Rattle.steps.proofs.Appending.{append-done, append-cut}
+use Rattle.steps.proofs.AppendWays.{append-done, append-cut}
 use Rattle.steps.proofs.Commits.{freed, commit-next, commit-appends, commit-appended}
 use Rattle.steps.proofs.committing.carry_out.Statement.{statement}
 use Rattle.steps.proofs.committing.carry_out.Tie as tie

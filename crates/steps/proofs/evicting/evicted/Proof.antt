@@ -14,7 +14,7 @@ use Rattle.model.proofs.Fit.{Fit}
 use Rattle.buffers.proofs.Guards.{redos-appended}
 use Rattle.state.specs.View.{view, memory}
 use Rattle.steps.proofs.Outcome.{common-fit, refused-way}
-use Rattle.steps.proofs.Appending.{appended-of, append-cut}
+use Rattle.steps.proofs.AppendWays.{appended-of, append-cut}
 use Rattle.steps.proofs.LineRows.{LineFit}
 use Rattle.steps.proofs.LoggingOldest.{WholeRedos}
 use Rattle.steps.proofs.StoreParts.{redos-length}

@@ -1,7 +1,7 @@
 -- `redo_logged` meets its contract: refused, cut, or done with the oldest redo entry logged.
 use mathlib.Core.Path.{_≡_, refl, sym, _∙_}
 use mathlib.Core.List.{List}
-use Prim.Native.Nat.{_-_}
+use Prim.Native.Nat.{_+_, _-_}
 use native.Mathlib.Omega.{arith}
 use borrow.Author.Needs.{needs}
 use lib.ListN.{drop}
@@ -16,9 +16,9 @@ use Rattle.model.specs.Step.{logRedo}
 use Rattle.buffers.proofs.Guards.{redos-appended}
 use Rattle.state.specs.declared.Machine.{Machine}
 use Rattle.state.specs.View.{view, memory}
-use Rattle.steps.proofs.Outcome.{refused-way}
-use Rattle.steps.proofs.Appending.{AppendWay, append-done, append-cut}
-use Rattle.steps.proofs.LoggingOldest.{WholeRedos, oldest, count-oldest, withLogged, redos-rest, in-log, Known, known}
+use Rattle.steps.proofs.Outcome.{refused-way, withParts}
+use Rattle.steps.proofs.AppendWays.{append-done, append-cut}
+use Rattle.steps.proofs.LoggingOldest.{WholeRedos, oldest, count-oldest, redos-rest, in-log, Known, known}
 use Rattle.steps.proofs.log_oldest.redo_logged.Statement.{statement}
 use Rattle.steps.proofs.log_oldest.redo_logged.Tie as tie
 
@@ -48,23 +48,14 @@ number c =
     (count-oldest redoRecord (s .redos .len) (redoAt (s .redos)))
 
 -- what is known once it is not refused
-passed-known : (c : tie.Else1) → let s = start (c .before) in Known (view (s .args .t1)) (lent s) 32 (s .args .t1 .redos .len) (records (s .args .t1))
+passed-known : (c : tie.Else1) → let s = start (c .before) in
+    Known logRedo (view (s .args .t1)) (lent s) 32 (s .args .t1 .redos .len) (records (s .args .t1)) (redosLogged 1 (view (s .args .t1)))
 passed-known c =
     let s = start (c .before) in
     let b = s .args .t1 .redos in
-    known redoRecord 32 (b .len) (redoAt b) (view (s .args .t1)) (lent s) (c .before .refusal .result) (λ d. omega (arith, d .redoSize)) (s .pre)
-    (number (c .before)) (c .if1 .left)
-
--- it appends the entry's record
-appends : (c : tie.Else1) → let s = start (c .before) in
-    AppendWay logRedo (view (s .args .t1)) (lent s) (records (s .args .t1)) (redosLogged 1 (view (s .args .t1))) (lent s .working)
-appends c =
-    let k = passed-known c in
-    record {
-      way = record { first = start (c .before) .pre; own = sym (number (c .before)) ∙ c .if1 .left; work = refl };
-      fits = k .fits;
-      room = k .room;
-    }
+    let none = sym (number (c .before)) ∙ c .if1 .left in
+    known logRedo redoRecord 32 (b .len) (redoAt b) (view (s .args .t1)) (lent s) (redosLogged 1 (view (s .args .t1))) (λ d. omega (arith, d .redoSize)) (s .pre) none
+    (record { first = s .pre; own = none; work = refl })
 
 refusal-requires : tie.Need-refusal-requires
 refusal-requires c κs =
@@ -86,7 +77,7 @@ returns-2 c =
     let s = start (begun .before) in
     let e = appended .append-redos in
     let k = passed-known begun in
-    append-cut (appends begun) (s .args .supply) 1 (ended .cut .result) (ended .cut .last .0) (e .last .0) (e .result) (k .one)
+    append-cut (k .appends) (s .args .supply) 1 (ended .cut .result) (ended .cut .last .0) (e .last .0) (e .result) (k .one)
     (ended .before .before .if2 .taken) (redos-appended 1 (s .args .t1 .redos) (k .some) (k .short) (e .ensures))
     (ended .cut .ensures .0) (ended .cut .ensures .1)
 
@@ -98,7 +89,7 @@ sub-state c =
 add-state : tie.Need-add-state
 add-state c =
     let k = passed-known (passed (c .before .before .before .before .before .before .before .before)) in
-    omega (arith, k .fits .clauses .tail)
+    omega (arith, k .appends .fits .clauses .tail)
 
 returns-3 : tie.Need-returns-3
 returns-3 c =
@@ -115,9 +106,9 @@ returns-3 c =
     let rest : redosWaiting left ≡ drop 1 (redosWaiting (s .redos)) =
     redos-rest 1 (keys .last .0) (values .last .0) (s .redos) (whole-redos (start (begun .before))) (k .some) (k .short)
     (keys .ensures) (values .ensures) in
-    let next = withLogged s 1 (s .lines) (s .undos) left in
+    let next = withParts s (s .tail + 1) (s .lines) (s .undos) left in
     let same : view next ≡ redosLogged 1 (view s) = rw (rest, k .one) in
-    append-done (appends begun) (a .supply) 1 (record { answer = 0; left = e .result; state = next }) (e .last .0) (k .one) (taken .if2 .left)
+    append-done (k .appends) (a .supply) 1 (record { answer = 0; left = e .result; state = next }) (e .last .0) (k .one) (taken .if2 .left)
     (redos-appended 1 (s .redos) (k .some) (k .short) (e .ensures)) refl same
 
 pub redo-logged-spec : {M : Type 1} → statement M

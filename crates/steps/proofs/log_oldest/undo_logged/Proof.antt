@@ -18,7 +18,7 @@ use Rattle.buffers.proofs.Guards.{undos-appended}
 use Rattle.state.specs.declared.Machine.{Machine}
 use Rattle.state.specs.View.{view, memory}
 use Rattle.steps.proofs.Outcome.{refused-way}
-use Rattle.steps.proofs.Appending.{AppendWay, append-done, append-cut}
+use Rattle.steps.proofs.AppendWays.{append-done, append-cut}
 use Rattle.steps.proofs.LoggingOldest.{WholeUndos, oldest, count-oldest, undosGone, undos-gone, undos-rest, in-log, Known, known}
 use Rattle.steps.proofs.log_oldest.undo_logged.Statement.{statement}
 use Rattle.steps.proofs.log_oldest.undo_logged.Tie as tie
@@ -52,23 +52,14 @@ number c =
     (count-oldest undoRedoRecord (s .undos .len) (undoAt (s .undos)))
 
 -- what is known once it is not refused
-passed-known : (c : tie.Else1) → let s = start (c .before) in Known (view (s .args .t1)) (lent s) 16 (s .args .t1 .undos .len) (records (s .args .t1))
+passed-known : (c : tie.Else1) → let s = start (c .before) in
+    Known logUndo (view (s .args .t1)) (lent s) 16 (s .args .t1 .undos .len) (records (s .args .t1)) (undosLogged 1 (view (s .args .t1)))
 passed-known c =
     let s = start (c .before) in
     let b = s .args .t1 .undos in
-    known undoRedoRecord 16 (b .len) (undoAt b) (view (s .args .t1)) (lent s) (c .before .refusal .result) (λ d. omega (arith, d .undoSize)) (s .pre)
-    (number (c .before)) (c .if1 .left)
-
--- it appends the entry's record
-appends : (c : tie.Else1) → let s = start (c .before) in
-    AppendWay logUndo (view (s .args .t1)) (lent s) (records (s .args .t1)) (undosLogged 1 (view (s .args .t1))) (lent s .working)
-appends c =
-    let k = passed-known c in
-    record {
-      way = record { first = start (c .before) .pre; own = sym (number (c .before)) ∙ c .if1 .left; work = refl };
-      fits = k .fits;
-      room = k .room;
-    }
+    let none = sym (number (c .before)) ∙ c .if1 .left in
+    known logUndo undoRedoRecord 16 (b .len) (undoAt b) (view (s .args .t1)) (lent s) (undosLogged 1 (view (s .args .t1))) (λ d. omega (arith, d .undoSize)) (s .pre) none
+    (record { first = s .pre; own = none; work = refl })
 
 refusal-requires : tie.Need-refusal-requires
 refusal-requires c κs =
@@ -90,7 +81,7 @@ returns-2 c =
     let s = start (begun .before) in
     let e = appended .append-undos in
     let k = passed-known begun in
-    append-cut (appends begun) (s .args .supply) 1 (ended .cut .result) (ended .cut .last .0) (e .last .0) (e .result) (k .one)
+    append-cut (k .appends) (s .args .supply) 1 (ended .cut .result) (ended .cut .last .0) (e .last .0) (e .result) (k .one)
     (ended .before .before .if2 .taken) (undos-appended 1 (s .args .t1 .undos) (k .some) (k .short) (e .ensures))
     (ended .cut .ensures .0) (ended .cut .ensures .1)
 
@@ -104,7 +95,7 @@ add-state : tie.Need-add-state
 add-state c =
     let taken = c .before .before .before .before .before .before .before .before .before .before .before in
     let k = passed-known (passed (taken .before .before .before)) in
-    omega (arith, k .fits .clauses .tail)
+    omega (arith, k .appends .fits .clauses .tail)
 
 returns-3 : tie.Need-returns-3
 returns-3 c =
@@ -133,7 +124,7 @@ returns-3 c =
     let next = undosGone s 1 (marked .last .0) left in
     let same : view next ≡ undosLogged 1 (view s) =
     undos-gone s 1 (marked .last .0) left (whole-lines b) places (k .some) (k .short) (k .narrow) (marked .ensures (whole-lines b .states) places) rest in
-    append-done (appends begun) (a .supply) 1 (record { answer = 0; left = e .result; state = next }) (e .last .0) (k .one) (taken .if2 .left)
+    append-done (k .appends) (a .supply) 1 (record { answer = 0; left = e .result; state = next }) (e .last .0) (k .one) (taken .if2 .left)
     (undos-appended 1 (s .undos) (k .some) (k .short) (e .ensures)) refl same
 
 pub undo-logged-spec : {M : Type 1} → statement M

@@ -25,9 +25,10 @@ use Rattle.state.specs.declared.Machine.{Machine}
 use Rattle.state.specs.View.{view}
 use Rattle.lines.proofs.WordStates.{withStates, first-marked}
 use Rattle.buffers.proofs.LoggedLines.{whole-logged}
+use Rattle.steps.proofs.Outcome.{withParts}
 use Rattle.steps.proofs.LoggingOldest.{WholeUndos, WholeRedos, undosGone, undos-gone}
 use Rattle.steps.proofs.StoreParts.{logs-most, logs-other, none-logged, logs-room, undos-length, next-same, next-other}
-use Rattle.steps.proofs.StoreParts.{held-lines, dirty-lines, whole-dirty, place-found, redos-kept, WholeState}
+use Rattle.steps.proofs.StoreParts.{withHolders, held-lines, dirty-lines, whole-dirty, place-found, redos-kept, WholeState}
 use Rattle.steps.proofs.StoreParts.{stored-first, stored-dirty, stored-logged, stored-last}
 use Rattle.steps.proofs.storing.next_state.Statement.{statement}
 use Rattle.steps.proofs.storing.next_state.Tie as tie
@@ -48,7 +49,7 @@ returns c mem was =
     let e = c .before .before .before .before .before .before .before .before .args .entry in
     let whole = whole-lines (c .before .before .before .before .before .before .before .before) in
     next-same (view s) mem (e .thread) (e .word) (e .redo) (eqb (e .redo) (e .undo))
-    (firstLines (s .words / 8) (record { holders = c .before .before .put-holder .last .0; dirty = s .lines .dirty; states = s .lines .states }))
+    (firstLines (s .words / 8) (withHolders (c .before .before .put-holder .last .0) (s .lines .dirty) (s .lines)))
     (eq-eqb (e .redo) (e .undo) (c .if1 .taken))
     (held-lines (s .words / 8) (s .lines) (e .word / 8) (e .thread) (c .before .before .put-holder .last .0) whole (omega arith)
     (c .before .before .put-holder .ensures))
@@ -65,21 +66,10 @@ module _ (c : tie.After-put-flag) where
   e = start .args .entry
 
   abbrev lines : Lines
-  lines = record { holders = c .before .before .before .before .put-holder .last .0; dirty = c .put-flag .last .0; states = s .lines .states }
+  lines = withHolders (c .before .before .before .before .put-holder .last .0) (c .put-flag .last .0) (s .lines)
 
   abbrev claimed : Machine
-  claimed =
-      record {
-        lost = s .lost;
-        words = s .words;
-        slots = s .slots;
-        head = s .head;
-        tail = s .tail;
-        opened = s .opened;
-        lines = lines;
-        undos = s .undos;
-        redos = s .redos;
-      }
+  claimed = withParts s (s .tail) lines (s .undos) (s .redos)
 
   whole : WholeLines (s .lines)
   whole = whole-lines start

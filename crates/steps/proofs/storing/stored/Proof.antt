@@ -19,7 +19,7 @@ use Rattle.buffers.proofs.Guards.{undos-appended}
 use Rattle.state.specs.View.{view, memory}
 use Rattle.steps.proofs.Outcome.{refused-way}
 use Rattle.steps.proofs.StoreParts.{logs-most, undos-length, redos-length}
-use Rattle.steps.proofs.Appending.{appended-of, append-done, append-cut}
+use Rattle.steps.proofs.AppendWays.{appended-of, append-done, append-cut}
 use Rattle.steps.proofs.StoreRows.{placeRows, place-refused, Known, known, late-number, StoreAppends, store-appends, store-size}
 use Rattle.steps.proofs.storing.stored.Statement.{statement}
 use Rattle.steps.proofs.storing.stored.Tie as tie

@@ -5,7 +5,7 @@ use Rattle.random_lists.proofs.playing.UnderWay.stepped.Statement.{stat
 use Rattle.random_lists.proofs.playing.UnderWay.stepped.Tie as tie
 
 same-length-3 : tie.Need-same-length-3
-same-length-3 c = c .before .before .before .before .before .before .before .made .kept .1 .1 .1 .1 .0
+same-length-3 c = c .before .before .before .before .before .before .before .make-step .kept .1 .1 .1 .1 .0
     ∙ c .before .before .before .before .before .before .before .before .before .before .before .before .before .disturbed .kept .1 .0
 
 pub stepped-spec : {M : Type 1} → statement M

@@ -1,8 +1,8 @@
 -- `answers` ends.
 use Prim.Native.Nat.{_-_, _≤_}
 use borrow.Author.Needs.{needs}
-use Rattle.random_lists.proofs.output.answers.Statement.{statement}
-use Rattle.random_lists.proofs.output.answers.Tie as tie
+use Rattle.random_lists.proofs.printing.answers.Statement.{statement}
+use Rattle.random_lists.proofs.printing.answers.Tie as tie
 
 abbrev Inv-loop : tie.InvT-loop
 Inv-loop counts a₀ a = 0 ≤ a

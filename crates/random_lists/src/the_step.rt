@@ -1,9 +1,6 @@
 // "E. The step"
 ghost use Prim.Native.Nat.{_≤_};
 use crate::choosing::Run;
-use crate::numbers::either;
-use crate::numbers::less;
-use crate::numbers::nth;
 use crate::tables::BEGIN;
 use crate::tables::COMMIT;
 use crate::tables::DELETE;
@@ -12,6 +9,9 @@ use crate::tables::LOG_UNDO;
 use crate::tables::SET_DOWN;
 use crate::tables::STORE;
 use crate::tables::WRITE_HOME;
+use crate::wrapping::either;
+use crate::wrapping::minus;
+use crate::wrapping::nth;
 use machine::Answer;
 use machine::State;
 use parts::Step;
@@ -56,13 +56,13 @@ pub(crate) fn lent_in(case: u64, w: u64, l: u64) -> Lent
     let part = either(l == 8, 22, 25);
     let log = nth(case, all, all, all, all - 1, part, all);
     Lent {
-        home: least(less(w, nth(case, 1, 0, 8, 0, 0, 0)), 512),
-        working: least(less(w, nth(case, 0, 8, 8, 0, 0, 0)), 512),
+        home: least(minus(w, nth(case, 1, 0, 8, 0, 0, 0)), 512),
+        working: least(minus(w, nth(case, 0, 8, 8, 0, 0, 0)), 512),
         log: least(log, 3073),
     }
 }
 
-pub(crate) fn made(
+pub(crate) fn make_step(
     state: State,
     run: Run,
     home: &mut [u64],

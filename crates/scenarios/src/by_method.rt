@@ -4,7 +4,7 @@ use machine::State;
 use parts::Step;
 
 // Begin is lent nothing: the count left is the supply as it was.
-pub(crate) fn made(
+pub(crate) fn step_by_method(
     state: State,
     step: Step,
     home: &mut [u64],

@@ -5,7 +5,7 @@ pub(crate) fn sum(a: u64, b: u64) -> u64 {
     std::num::wrapping_add_u64(a, b)
 }
 
-pub(crate) fn less(a: u64, b: u64) -> u64 {
+pub(crate) fn minus(a: u64, b: u64) -> u64 {
     std::num::wrapping_sub_u64(a, b)
 }
 

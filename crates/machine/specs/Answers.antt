@@ -7,14 +7,14 @@ use Rattle.model.specs.Machine.{Machine}
 use Rattle.model.specs.Plan.{Outcome}
 use Rattle.model.specs.Step.{Step, takesState}
 use Rattle.state.specs.View.{memory}
-use Rattle.state.specs.View as steps
+use Rattle.state.specs.View as ofMachine
 use Rattle.state.specs.HandedBack.{lostFields, freshFields}
 use Rattle.machine.specs.declared.State.{State}
 use Rattle.machine.specs.declared.Answer.{Answer}
 use Rattle.machine.specs.declared.Begun.{Begun}
 
 abbrev pub view : State → Machine
-view s = steps.view (s .machine)
+view s = ofMachine.view (s .machine)
 
 -- an answer with the buffers after the step
 abbrev pub shown : Answer → List ℕ → List ℕ → List ℕ → Outcome

@@ -10,7 +10,7 @@ use Rattle.parts.specs.declared.Entry.{Entry}
 use Rattle.parts.specs.declared.Line.{Line}
 use Rattle.parts.specs.States.{URLog}
 use Rattle.parts.proofs.Oldest.{take-more}
-use Rattle.model.specs.Machine.{marked, allLogged}
+use Rattle.model.specs.Machine.{marked, wordsMarked, allLogged}
 use Rattle.lines.specs.declared.Lines.{Lines}
 use Rattle.lines.specs.Lines.{firstLines}
 use Rattle.lines.proofs.FirstLines.{WholeLines}
@@ -44,7 +44,7 @@ logged-more ks i ss h = rw (add-one, take-suc ks i 0 h) (keys-last (take i ks) (
 
 -- the same in the model
 logged-last : (es : List Entry) (e : Entry) (ls : List Line) → allLogged (es ++ (e ∷ [])) ls ≡ marked URLog (e .word) (allLogged es ls)
-unfolding allLogged
+unfolding wordsMarked
 logged-last [] e ls = refl
 logged-last (d ∷ es) e ls = logged-last es e (marked URLog (d .word) ls)
 
@@ -56,7 +56,7 @@ module _ (b : UndoBuffer) (ls : Lines) (places : length (b .keys) ≡ 16) (short
   -- they are those of the lines that the model has
   pub logged-lines : (k n : ℕ) → k ≤ b .len → n ≤ 64
       → firstLines n (withStates (logged k) ls) ≡ allLogged (take k (undosWaiting b)) (firstLines n ls)
-  unfolding statesLogged allLogged
+  unfolding statesLogged wordsMarked
   logged-lines zero n h m = refl
   logged-lines (suc k) n h m =
       rw add-one at

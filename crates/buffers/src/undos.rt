@@ -3,6 +3,8 @@ use crate::UndoBuffer;
 use crate::removing::remove_u16;
 use crate::removing::remove_u64;
 ghost use mathlib.Core.Path.{_≡_};
+ghost use Prim.Native.Nat.{_%_};
+ghost use lib.ListN.{set};
 ghost use Rattle.buffers.specs.Arrays.{removed};
 ghost use Rattle.buffers.specs.Waiting.{emptyUndos};
 
@@ -17,6 +19,13 @@ impl UndoBuffer {
             undos: [0; 16],
             redos: [0; 16],
         }
+    }
+
+    // One number of an array replaced; of a place above 15, that of its low bits.
+    pub fn put_value(values: &mut [u64; 16], at: usize, value: u64)
+        ensures { λ _. ⌜ now (values .exit) ≡ set (now (values .entry)) (at % 16) value ⌝ }
+    {
+        values[at % 16] = value;
     }
 
     // Of `len` entries, `gone` are taken from place `at` on: in each array the numbers of those behind them move down.

@@ -1,9 +1,10 @@
-// The lines, and what is done to them: the two-bit states of their words read and replaced, Dirty words looked for,
-// ULog words counted and logged, lines stored home and released. What is no line or word changes nothing.
+// The lines, and what is done to them: claimed, the two-bit states of their words read and replaced, Dirty words looked
+// for, ULog words counted and logged, lines stored home and released.
 ghost use mathlib.Core.Path.{_≡_};
 ghost use Rattle.lines.specs.Lines.{freeLines};
 
 mod home_stores;
+mod line_parts;
 mod numbers;
 mod releasing;
 mod ulog_records;
@@ -12,6 +13,11 @@ mod word_states;
 
 pub use home_stores::has_dirty;
 pub use home_stores::store_line;
+pub use line_parts::holder_at;
+pub use line_parts::put_flag;
+pub use line_parts::put_holder;
+pub use line_parts::put_states;
+pub use line_parts::states_at;
 pub use numbers::least;
 pub use numbers::less;
 pub use releasing::release_holders;
@@ -25,6 +31,7 @@ pub use word_states::U_LOG;
 pub use word_states::UR_LOG;
 pub use word_states::mark;
 pub use word_states::state_at;
+pub use word_states::state_of;
 pub use word_states::with_state;
 
 // The holder of a line that nobody holds: "255 for none".

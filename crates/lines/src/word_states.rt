@@ -5,6 +5,7 @@ ghost use Prim.Native.Nat.{_/_, _%_};
 ghost use lib.Dec.{ltb};
 ghost use lib.ListN.{length, getD, set};
 ghost use Rattle.parts.specs.States.{stateAt, withState};
+use crate::line_parts::states_at;
 
 // "0 Clean, 1 Dirty (its entry waits in the undo+redo buffer), 2 URLog (undo and newest redo logged), 3 ULog (undo
 // logged, newest redo not)"
@@ -25,6 +26,14 @@ pub fn state_at(states: u16, j: u64) -> u64
     } else {
         0
     }
+}
+
+// The state of a word, by the states of all 64 lines; of a word above 511, that of its low bits.
+pub fn state_of(states: &[u16; 64], word: u16) -> u64
+    ensures { λ r. ⌜ r ≡ stateAt (getD (now (states .entry)) (word / 8 % 64) 0) (word % 8) ⌝ }
+{
+    let line = states_at(states, (word / 8) as usize);
+    state_at(line, (word % 8) as u64)
 }
 
 // A line's states with that of word j replaced. There are eight words, and four states.

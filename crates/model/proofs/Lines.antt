@@ -124,24 +124,18 @@ pub length-words : (s : ℕ) (ws : List ℕ) (ls : List Line) → length (wordsM
 length-words s ws ls = words-leave length s (λ v l. length-marked s v l) ws ls
 
 -- all entries of a list are logged: their words become URLog
-logged-words : (es : List Entry) (ls : List Line) → allLogged es ls ≡ wordsMarked URLog (map (λ e. e .word) es) ls
-unfolding allLogged wordsMarked
-logged-words [] ls = refl
-logged-words (e ∷ es) ls = logged-words es (marked URLog (e .word) ls)
-
 pub state-logged : (es : List Entry) (ls : List Line) (w : ℕ) → Every (λ e. e .word / 8 < length ls) es
     → stateIn (allLogged es ls) w ≡ cond (isEmpty (entriesOf w es)) (stateIn ls w) URLog
 state-logged es ls w within =
-    ap (λ l. stateIn l w) (logged-words es ls)
-    ∙ state-words URLog (map (λ e. e .word) es) ls w (omega arith) (every-mapped (λ v. v / 8 < length ls) (λ e. e .word) es within)
+    state-words URLog (map (λ e. e .word) es) ls w (omega arith) (every-mapped (λ v. v / 8 < length ls) (λ e. e .word) es within)
     ∙ ap (λ (t : Bool). cond t (stateIn ls w) URLog)
     (ap isEmpty (keep-map (λ v. eqb v w) (λ e. e .word) es) ∙ empty-map (λ e. e .word) (entriesOf w es))
 
 pub holder-logged : (es : List Entry) (ls : List Line) (w : ℕ) → holderIn (allLogged es ls) w ≡ holderIn ls w
-holder-logged es ls w = ap (λ l. holderIn l w) (logged-words es ls) ∙ holder-words URLog (map (λ e. e .word) es) ls w
+holder-logged es ls w = holder-words URLog (map (λ e. e .word) es) ls w
 
 pub dirty-logged : (es : List Entry) (ls : List Line) (w : ℕ) → dirtyIn (allLogged es ls) w ≡ dirtyIn ls w
-dirty-logged es ls w = ap (λ l. dirtyIn l w) (logged-words es ls) ∙ dirty-words URLog (map (λ e. e .word) es) ls w
+dirty-logged es ls w = dirty-words URLog (map (λ e. e .word) es) ls w
 
 -- the lines that t held are free, the others as they were
 pub line-released : (t : ℕ) (ls : List Line) (k : ℕ) → (t ≡ nobody → ⊥) → lineOf (map (released t) ls) k ≡ released t (lineOf ls k)

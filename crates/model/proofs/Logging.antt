@@ -308,7 +308,7 @@ module _ {words : ℕ} {opened : List Bool} {home working : List ℕ} {s : ℕ �
   -- the oldest undo+redo entries es are logged, fs stay
   pub undos-logged : (es fs ds : List Entry) (ls : List Line) (rs : List Record) → Core words opened ls (es ++ fs) ds rs home working s p
       → Core words opened (allLogged es ls) fs ds (rs ++ map undoRedoRecord es) home working s p
-  unfolding allLogged
+  unfolding wordsMarked
   undos-logged [] fs ds ls rs core = rw append-nil core
   undos-logged (e ∷ es) fs ds ls rs core =
       rw append-snoc at (undos-logged es fs ds (marked URLog (e .word) ls) (rs ++ (undoRedoRecord e ∷ [])) (undo-logged e (es ++ fs) ds ls rs core))

@@ -7,7 +7,7 @@ use Rattle.parts.specs.Listed.{listed}
 use Rattle.parts.specs.States.{stateAt, withState}
 use Rattle.parts.specs.Entries.{discarded, amended}
 use Rattle.model.specs.Lists.{keep, all, any}
-use Rattle.model.specs.Machine.{stateIn, holderIn, dirtyIn, changed, marked, wordsMarked, allLogged}
+use Rattle.model.specs.Machine.{stateIn, holderIn, dirtyIn, changed, marked, wordsMarked}
 use Rattle.model.specs.Consistent.{lineLimits, entryLimits, withinLimits, dirtyWait, redoClean, entriesHeld, holdersOpen, freeClean}
 use Rattle.model.specs.Consistent.{consistent, consistentWith}
 use Rattle.model.specs.Plan.{putsOf, homePart, logPart, written, performed, carriedOut}
@@ -24,7 +24,7 @@ use Rattle.model.specs.Scenarios.{ScenariosClaim, allExpected, end, same
 
 pub scenarios-pass : ScenariosClaim
 unfolding stored slotStores decoded slotsFor recordStores headStores isWritten readBack searched readFrom listed stateAt withState
-    discarded amended keep all any stateIn holderIn dirtyIn changed marked wordsMarked allLogged lineLimits entryLimits withinLimits dirtyWait
+    discarded amended keep all any stateIn holderIn dirtyIn changed marked wordsMarked lineLimits entryLimits withinLimits dirtyWait
     redoClean entriesHeld holdersOpen freeClean consistent consistentWith putsOf homePart logPart written performed carriedOut
     records judged verdict unless wrongLengths wrongSize isPending noRoom storeLogs storedAs storeNext evicted newestWords newestRedos
     prepareRecords prepareNext released commitRecords redoWrites undoWrites planOf stepped settled entered noted after allExpected end sameWords passes

@@ -1,7 +1,7 @@
 -- Document 01, "The state", and the three buffers beside it.
 use Prim.Native.Nat.{ℕ, _+_, _-_, _*_, _/_, _%_}
 use mathlib.Core.Bool.{Bool, true, false}
-use mathlib.Core.List.{List, [], _∷_}
+use mathlib.Core.List.{List, [], _∷_, map}
 use lib.ListN.{getD, set, replicate}
 use Rattle.parts.specs.declared.Entry.{Entry}
 use Rattle.parts.specs.declared.Line.{Line}
@@ -145,6 +145,5 @@ wordsMarked s [] ls = ls
 wordsMarked s (w ∷ ws) ls = wordsMarked s ws (marked s w ls)
 
 -- "its word becomes URLog, as it does whenever such an entry is logged"
-unfoldable pub allLogged : List Entry → List Line → List Line
-allLogged [] ls = ls
-allLogged (e ∷ es) ls = allLogged es (marked URLog (e .word) ls)
+abbrev pub allLogged : List Entry → List Line → List Line
+allLogged es ls = wordsMarked URLog (map (λ e. e .word) es) ls

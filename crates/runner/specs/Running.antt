@@ -27,7 +27,7 @@ script kinds threads places values supplies =
     record { kinds = kinds; threads = threads; places = places; values = values; supplies = supplies }
 
 -- a step by the number of its kind, its thread, its word or line, and its value
-unfoldable pub numbered : ℕ → ℕ → ℕ → ℕ → Step
+abbrev pub numbered : ℕ → ℕ → ℕ → ℕ → Step
 numbered kind t p v =
     getD
     (begin t ∷ store t p v ∷ logUndo ∷ logRedo ∷ evict p ∷ writeBack p ∷ commit t ∷ deleteOldest ∷ recover ∷ [])

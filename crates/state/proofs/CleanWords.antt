@@ -11,7 +11,7 @@ use Rattle.parts.specs.declared.Entry.{Entry}
 use Rattle.parts.specs.declared.Line.{Line}
 use Rattle.parts.specs.States.{Clean, Dirty, URLog, ULog}
 use Rattle.model.specs.Lists.{all}
-use Rattle.model.specs.Machine.{stateIn, holderIn, marked}
+use Rattle.model.specs.Machine.{stateIn, holderIn, marked, wordsMarked}
 use Rattle.model.proofs.Lists.{both-left, both-right}
 use Rattle.model.proofs.Lines.{state-marked, holder-marked, length-marked}
 use Rattle.state.specs.Linear.{waitsFor, eachWaits, allMarked, lineWithoutDirty, undosWait, redosWait}
@@ -78,7 +78,7 @@ module _ (words : ℕ) where
   -- the walk over the undo+redo entries leaves the Clean words
   undos-leave : (es : List Entry) (ls : List Line) → words ≤ 8 * length ls → eachWaits Dirty URLog words ls es ≡ true
       → SameClean (allMarked URLog ls es) ls
-  unfolding eachWaits allMarked
+  unfolding eachWaits wordsMarked
   undos-leave [] ls wide t = same ls
   undos-leave (e ∷ es) ls wide t =
       let next : List Line = marked URLog (e .word) ls in

@@ -17,11 +17,11 @@ use Rattle.parts.specs.FreeLine.{nobody, freeLine}
 use Rattle.parts.specs.States.{Clean, Dirty, URLog, ULog}
 use Rattle.parts.proofs.Listed.{length-listed, getD-listed}
 use Rattle.model.specs.Lists.{keep, all, upTo, isEmpty}
-use Rattle.model.specs.Machine.{Machine, lineOf, stateIn, holderIn, marked, allLogged}
+use Rattle.model.specs.Machine.{Machine, lineOf, stateIn, holderIn, marked}
 use Rattle.model.specs.Consistent.{isWidth, entriesOf, lineLimits, entryLimits, withinLimits, consistent}
 use Rattle.model.specs.Consistent.{dirtyWait, redoClean, entriesHeld, holdersOpen, freeClean}
 use Rattle.model.proofs.Lists.{both-left, both-right, every-implied, every-kept, every-listed}
-use Rattle.model.proofs.Lines.{state-marked, holder-marked, length-marked, state-logged}
+use Rattle.model.proofs.Lines.{state-marked, holder-marked, length-marked, length-words, state-logged}
 use Rattle.model.proofs.Core.{EntryOk}
 use Rattle.model.proofs.Consistency.{both, all-true, every-entry, entry-limits, WaitsFor, AllWait, all-in-state, all-alone, all-held}
 use Rattle.model.proofs.Fit.{Clauses, clauses, all-every}
@@ -304,17 +304,6 @@ words-none-dirty ls clean =
     let word : (8 * i + j) % 8 ≡ j = omega arith in
     clean (8 * i + j) (rw line h) (rw (line, word) d))))
 
--- entries logged are entries marked URLog
-logged-marked : (es : List Entry) (ls : List Line) → allMarked URLog ls es ≡ allLogged es ls
-unfolding allMarked allLogged
-logged-marked [] ls = refl
-logged-marked (e ∷ es) ls = logged-marked es (marked URLog (e .word) ls)
-
-length-marks : (next : ℕ) (es : List Entry) (ls : List Line) → length (allMarked next ls es) ≡ length ls
-unfolding allMarked
-length-marks next [] ls = refl
-length-marks next (e ∷ es) ls = length-marks next es (marked next (e .word) ls) ∙ length-marked next (e .word) ls
-
 -- what holds of each number up to n, by a test of all
 upto-each : (f : ℕ → Bool) (n : ℕ) → all f (upTo n) ≡ true → (w : ℕ) → w < n → f w ≡ true
 upto-each f n t w h =
@@ -325,8 +314,7 @@ module _ (words : ℕ) (ls : List Line) (es : List Entry) (wide : words ≡ 8 * 
   -- a word's state after all entries are marked
   state-marks : Every (EntryOk words) es → (w : ℕ) → stateIn (allMarked URLog ls es) w ≡ cond (isEmpty (entriesOf w es)) (stateIn ls w) URLog
   state-marks ok w =
-      ap (λ (l : List Line). stateIn l w) (logged-marked es ls)
-      ∙ state-logged es ls w (every-implied _ (λ e. e .word / 8 < length ls) es (λ e o. let h = o .word in omega arith) ok)
+      state-logged es ls w (every-implied _ (λ e. e .word / 8 < length ls) es (λ e o. let h = o .word in omega arith) ok)
 
   -- a word that is Dirty has one entry: by the clause
   abbrev dirtyOnce : ℕ → Bool
@@ -343,14 +331,14 @@ module _ (words : ℕ) (ls : List Line) (es : List Entry) (wide : words ≡ 8 * 
           → Once Dirty (stateIn ls w) (entriesOf w es) → dirtyOnce w ≡ true
       each walk without w b (none e) =
           rw (ne-eqb (stateIn ls w) Dirty
-          (λ d. none-dirty-words (allMarked URLog ls es) without w (rw length-marks (omega arith)) (state-marks (walk .ok) w ∙ rw e d)))
+          (λ d. none-dirty-words (allMarked URLog ls es) without w (rw length-words (omega arith)) (state-marks (walk .ok) w ∙ rw e d)))
       each walk without w b (one s l) = rw (s, l)
 
   each-undos : Walkable Dirty words ls es → ((w : ℕ) → w < words → dirtyOnce w ≡ true) → undosWait words ls es ≡ true
   unfolding undosWait
   each-undos walk once =
       both (walkable-test Dirty URLog words (omega arith) (λ e. absurd (omega arith)) es ls (omega arith) walk)
-      (words-none-dirty (allMarked URLog ls es) (λ w h d. clean w (entriesOf w es) refl (rw length-marks at h) d))
+      (words-none-dirty (allMarked URLog ls es) (λ w h d. clean w (entriesOf w es) refl (rw length-words at h) d))
     where
       clean : (w : ℕ) (r : List Entry) → entriesOf w es ≡ r → w / 8 < length ls → stateIn (allMarked URLog ls es) w ≡ Dirty → ⊥
       clean w [] e h d =

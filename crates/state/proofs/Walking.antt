@@ -16,7 +16,7 @@ use Rattle.parts.specs.FreeLine.{freeLine}
 use Rattle.parts.specs.States.{stateAt, withState, Dirty, URLog}
 use Rattle.parts.proofs.Listed.{length-listed, getD-listed, set-listed}
 use Rattle.model.specs.Lists.{all}
-use Rattle.model.specs.Machine.{lineOf, stateIn, holderIn, statesAs, changed, marked}
+use Rattle.model.specs.Machine.{lineOf, stateIn, holderIn, statesAs, changed, marked, wordsMarked}
 use Rattle.buffers.specs.Keys.{keyThread, keyWord}
 use Rattle.buffers.specs.Waiting.{keyed, entryOf}
 use Rattle.state.specs.StateOf.{bareLine, bareEntry, linesLent, entriesLent}
@@ -93,7 +93,7 @@ module _ (wanted next words : ℕ) (holders states : List ℕ) (thread word : �
     pub walked-one : (ltb thread 8 && (eqb thread (getD holders (word / 8) 0) && found)) ≡ true → words ≤ 512 → length states ≡ 64
         → (new : ℕ) → new ≡ withState (getD states (word / 8) 0) (word % 8) next
         → Walked wanted next words holders states (bareEntry thread word ∷ []) true (set states (word / 8) new)
-    unfolding eachWaits allMarked
+    unfolding eachWaits wordsMarked
     walked-one test few whole new put =
         record {
           size = length-set states (word / 8) new;
@@ -110,14 +110,14 @@ walked-keyed {wanted} {next} {words} {holders} {before} {after} {r} key thread w
 module _ (wanted next words : ℕ) (holders : List ℕ) where
   -- no entries: each waits, and no state is replaced
   pub walked-none : (states : List ℕ) → Walked wanted next words holders states [] true states
-  unfolding eachWaits allMarked
+  unfolding eachWaits wordsMarked
   walked-none states = record { size = refl; each = refl; lines = λ _. refl }
 
   -- an entry that waits, and then others
   walked-more : (before : List ℕ) (e : Entry) (es : List Entry) (states later : List ℕ) (r : Bool)
       → Walked wanted next words holders before (e ∷ []) true states → Walked wanted next words holders states es r later
       → Walked wanted next words holders before (e ∷ es) r later
-  unfolding eachWaits allMarked
+  unfolding eachWaits wordsMarked
   walked-more before e es states later r one rest =
       let waits : waitsFor wanted words (linesLent (words / 8) holders before) e ≡ true = sym (one .each ∙ and-true _) in
       let marks : linesLent (words / 8) holders states ≡ marked next (e .word) (linesLent (words / 8) holders before) = one .lines refl in

@@ -3,7 +3,7 @@
 use Prim.Native.Nat.{ℕ, zero, suc, _+_, _/_, _%_, _^_, _<_}
 use mathlib.Core.Path.{_≡_}
 use mathlib.Core.Bool.{Bool, true, false, _&&_, _||_, not}
-use mathlib.Core.List.{List, [], _∷_}
+use mathlib.Core.List.{List, [], _∷_, map}
 use lib.Dec.{eqb, ltb, leb}
 use lib.ListN.{length, getD}
 use Rattle.log.specs.Region.{numbers}
@@ -12,7 +12,7 @@ use Rattle.parts.specs.declared.Line.{Line}
 use Rattle.parts.specs.FreeLine.{nobody}
 use Rattle.parts.specs.States.{Clean, Dirty, URLog, ULog}
 use Rattle.model.specs.Lists.{all}
-use Rattle.model.specs.Machine.{Machine, stateIn, holderIn, marked}
+use Rattle.model.specs.Machine.{Machine, stateIn, holderIn, marked, wordsMarked}
 use Rattle.model.specs.Consistent.{isWidth}
 use Rattle.state.specs.declared.Counts.{Counts}
 use Rattle.state.specs.declared.awaited.Buffer.{Buffer}
@@ -59,9 +59,8 @@ eachWaits wanted next words ls (e ∷ es) =
     waitsFor wanted words ls e && eachWaits wanted next words (marked next (e .word) ls) es
 
 -- the lines after that
-unfoldable pub allMarked : ℕ → List Line → List Entry → List Line
-allMarked next ls [] = ls
-allMarked next ls (e ∷ es) = allMarked next (marked next (e .word) ls) es
+abbrev pub allMarked : ℕ → List Line → List Entry → List Line
+allMarked next ls es = wordsMarked next (map (λ e. e .word) es) ls
 
 -- none of the n lowest words of a line is Dirty
 unfoldable pub noneDirty : ℕ → ℕ → Bool

@@ -26,7 +26,7 @@ use Rattle.buffers.proofs.Waiting.{undoAt, redoAt, waiting-added}
 use Rattle.lines.proofs.FirstLines.{WholeLines}
 use Rattle.lines.proofs.LinesInUse.{first-changed}
 use Rattle.lines.proofs.WordStates.{withStates, replaced, first-marked}
-use Rattle.model.specs.Machine.{Machine as Model, Memory, changed, marked, heldBy, dirtyAs, stateIn, allLogged, withTail, withLines, withUndoRedo, withRedo}
+use Rattle.model.specs.Machine.{Machine as Model, Memory, changed, marked, heldBy, dirtyAs, stateIn, wordsMarked, withTail, withLines, withUndoRedo, withRedo}
 use Rattle.model.specs.Steps.{undosLogged, storeLogs, storedAs, storeNext}
 use Rattle.model.proofs.Lists.{both-right}
 use Rattle.state.specs.declared.Machine.{Machine}
@@ -91,7 +91,7 @@ redos-length b = length-listed (b .len) (redoAt b)
 
 -- where no entry is logged, nothing changes
 pub none-logged : (m : Model) (k : ℕ) → k ≡ 0 → m ≡ undosLogged k m
-unfolding allLogged
+unfolding wordsMarked
 none-logged m k e = rw e (let h : m .span .tail ≡ m .span .tail + 0 = omega arith in ap (λ (n : ℕ). withTail n m) h)
 
 -- what is stored by the word's state: a first entry, another redo, another state, or nothing

@@ -14,7 +14,7 @@ ghost use Rattle.state.specs.View.{view, memory, shown};
 ghost use Rattle.state.specs.HandedBack.{HandedBack};
 ghost use Rattle.steps.specs.Committing.{HasEntries, Allowed};
 ghost use Rattle.steps.specs.LentParts.{TakenOut, LogOf};
-use crate::arrays::is_open;
+use crate::refusals::is_open;
 use crate::refusals::no_room;
 use crate::refusals::refuse;
 use crate::refusals::refused;

@@ -1,6 +1,5 @@
 // The nine steps of document 01, as functions of a state by its fields. Each hands back what the model's definition of
 // the step gives.
-mod arrays;
 mod beginning;
 mod committing;
 mod deleting;
@@ -10,7 +9,6 @@ mod refusals;
 mod sizes;
 mod stepping;
 mod storing;
-mod words;
 mod writing_back;
 
 pub use stepping::perform;

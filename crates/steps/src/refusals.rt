@@ -1,7 +1,8 @@
 // The table of refusals: rows in rising order, and those that several steps share.
 ghost use mathlib.Core.Path.{_≡_};
-ghost use mathlib.Core.Bool.{cond};
-ghost use Prim.Native.Nat.{_+_, _≤_};
+ghost use mathlib.Core.Bool.{cond, false};
+ghost use Prim.Native.Nat.{_+_, _%_, _≤_};
+ghost use lib.ListN.{getD};
 ghost use Rattle.log.specs.Region.{numbers};
 ghost use Rattle.model.specs.Machine.{Machine as Model, Memory};
 ghost use Rattle.model.specs.Consistent.{consistent};
@@ -58,6 +59,13 @@ pub(crate) fn common(
         SIZE,
         refuse(lost, LOST, refuse(!consistent, INCONSISTENT, 0)),
     )
+}
+
+// A thread has an open transaction; of a number above 7, the thread of its low bits.
+pub(crate) fn is_open(opened: &[bool; 8], thread: u64) -> bool
+    ensures { λ r. ⌜ r ≡ getD (now (opened .entry)) (thread % 8) false ⌝ }
+{
+    opened[(thread % 8) as usize]
 }
 
 // The rows of a step that logs `count` records; head and tail are those of a log of so many slots.

@@ -16,16 +16,12 @@ ghost use Rattle.model.specs.Steps.{storeLogs, storeNext};
 ghost use Rattle.state.specs.View.{view, memory, shown};
 ghost use Rattle.state.specs.HandedBack.{HandedBack};
 ghost use Rattle.steps.specs.LentParts.{TakenOut, LogOf};
-use crate::arrays::is_open;
-use crate::arrays::put_flag;
-use crate::arrays::put_holder;
-use crate::arrays::put_value;
+use crate::refusals::is_open;
 use crate::refusals::no_room;
 use crate::refusals::refuse;
 use crate::refusals::refused;
-use crate::words::holder_of;
-use crate::words::state_of;
 use buffers::RedoBuffer;
+use buffers::UndoBuffer;
 use buffers::append_undos;
 use buffers::find;
 use buffers::key;
@@ -38,7 +34,11 @@ use lines::Lines;
 use lines::NOBODY;
 use lines::U_LOG;
 use lines::UR_LOG;
+use lines::holder_at;
 use lines::mark;
+use lines::put_flag;
+use lines::put_holder;
+use lines::state_of;
 use parts::Entry;
 use state::DONE;
 use state::HELD;
@@ -56,7 +56,7 @@ fn held_by_another(holders: &[u8; 64], thread: u64, word: u16) -> bool
         → r ≡ (not (eqb (holderIn (firstLines n ls) word) nobody) && not (eqb (holderIn
         (firstLines n ls) word) thread))) ⌝ }
 {
-    let holder = holder_of(holders, word);
+    let holder = holder_at(holders, (word / 8) as usize);
     (holder != NOBODY) & (holder as u64 != thread)
 }
 
@@ -118,7 +118,7 @@ fn next_state(mut state: Machine, entry: Entry, count: usize) -> Machine
             let len = state.undos.len;
             let at = find(&state.undos.keys, len, entry.word);
             if at < len {
-                put_value(&mut state.undos.redos, at, entry.redo);
+                UndoBuffer::put_value(&mut state.undos.redos, at, entry.redo);
             }
         }
         UR_LOG => mark(&mut state.lines.states, entry.word, U_LOG),

@@ -10,10 +10,10 @@ ghost use Rattle.model.specs.Refusals.{numberOf, common as commonRows, place, p
 ghost use Rattle.model.specs.Step.{writeBack, stepped};
 ghost use Rattle.state.specs.View.{view, memory, shown};
 ghost use Rattle.state.specs.HandedBack.{HandedBack};
-use crate::arrays::put_flag;
 use crate::refusals::refuse;
 use crate::refusals::refused;
 use lines::has_dirty;
+use lines::put_flag;
 use lines::store_line;
 use state::DONE;
 use state::Machine;

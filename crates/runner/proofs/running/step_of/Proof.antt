@@ -16,7 +16,6 @@ above k n h ne = omega arith
 
 -- from 8 on
 from-eight : (k t p v : ℕ) → 8 ≤ k → numbered k t p v ≡ recover
-unfolding numbered
 from-eight k t p v h =
     elim (ℕ-discrete k 8) [
       | yes e ↦ rw e
@@ -28,40 +27,8 @@ from-eight k t p v h =
           (above k 8 h ne)
     ]
 
-returns : tie.Need-returns
-unfolding numbered
-returns c = rw (c .match .keys1)
-
-returns-2 : tie.Need-returns-2
-unfolding numbered
-returns-2 c = rw (c .match .keys2)
-
-returns-3 : tie.Need-returns-3
-unfolding numbered
-returns-3 c = rw (c .match .keys3)
-
-returns-4 : tie.Need-returns-4
-unfolding numbered
-returns-4 c = rw (c .match .keys4)
-
-returns-5 : tie.Need-returns-5
-unfolding numbered
-returns-5 c = rw (c .match .keys5)
-
-returns-6 : tie.Need-returns-6
-unfolding numbered
-returns-6 c = rw (c .match .keys6)
-
-returns-7 : tie.Need-returns-7
-unfolding numbered
-returns-7 c = rw (c .match .keys7)
-
-returns-8 : tie.Need-returns-8
-unfolding numbered
-returns-8 c = rw (c .match .keys8)
-
-returns-9 : tie.Need-returns-9
-returns-9 c =
+from-recover : tie.Need-returns-9
+from-recover c =
     let kind = c .before .args .kind in
     let r = c .match .rest in
     let low : 4 ≤ kind =
@@ -74,12 +41,12 @@ pub step-of-spec : {M : Type 1} → statement M
 step-of-spec =
     tie.close
     (tie.spec
-    returns
-    returns-2
-    returns-3
-    returns-4
-    returns-5
-    returns-6
-    returns-7
-    returns-8
-    returns-9)
+    (λ c. rw (c .match .keys1))
+    (λ c. rw (c .match .keys2))
+    (λ c. rw (c .match .keys3))
+    (λ c. rw (c .match .keys4))
+    (λ c. rw (c .match .keys5))
+    (λ c. rw (c .match .keys6))
+    (λ c. rw (c .match .keys7))
+    (λ c. rw (c .match .keys8))
+    from-recover)

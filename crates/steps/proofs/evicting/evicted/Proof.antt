@@ -1,11 +1,12 @@
 -- `evicting::evicted` meets its contract: refused, cut, or done.
-use Prim.Native.Nat.{_+_, _-_, _≤_, _<_}
+use Prim.Native.Nat.{_+_, _-_, _%_, _≤_, _<_}
 use mathlib.Core.Path.{_≡_, refl, sym, ap, _∙_}
 use mathlib.Core.Logic.{⊎-elim}
 use native.Mathlib.Omega.{arith}
 use lib.ListN.{getD, set}
 use lib.Seq.{set-getD}
 use Rattle.lines.proofs.FirstLines.{WholeLines}
+use Rattle.lines.proofs.LinesInUse.{put-there}
 use Rattle.model.specs.Machine.{Memory}
 use Rattle.model.specs.Refusals.{numberOf}
 use Rattle.model.specs.Steps.{redoRecords, lacking, evictRows}
@@ -140,11 +141,6 @@ add-state c =
     let h = few (began (unread (c .before .before .before .before .before .before .before .before .before .before .before))) in
     omega (arith, c .count-ulog .ensures .0)
 
-put-states-requires : tie.Need-put-states-requires
-put-states-requires c κs =
-    let counted = c .before .before in
-    place (unread (counted .before .before .before .before .before .before .before .before .before .before .before))
-
 -- the tail is as it was
 same-tail : (c : tie.Joined3) → c .if3 .state .tail ≡ began (unread (c .before .before)) .args .t1 .tail
 same-tail c = ⊎-elim (λ w. rw (w .13)) (λ w. rw (w .1)) (c .if3 .came)
@@ -167,14 +163,15 @@ returns-3 c =
     let a = s .args in
     let f = passed e in
     let count = taken e .lacking in
-    let states = read .states-at .ensures in
+    let same : a .line % 64 ≡ a .line = omega (arith, place e) in
+    let states = rw same at (read .states-at .ensures) in
     let done =
     evict-done (a .line) (a .t1) (lent s) (s .pre) (none e) (a .supply) (count .result) (lacks e) (count .ensures .0) (log .last .0) (log .result)
     (redos-appended (count .result) (a .t1 .redos) (count .ensures .0) (few s) (log .ensures)) (read .before .before .before .if2 .left) (whole-lines s) in
     ⊎-elim
     (λ w.
     let whole = whole-redos s in
-    let holder = w .3 .ensures in
+    let holder = rw same at (w .3 .ensures) in
     let keys = w .5 .ensures (whole .keys) in
     let redos = w .8 .ensures (whole .redos) in
     let added = w .9 .ensures .1 in
@@ -183,7 +180,7 @@ returns-3 c =
     (done (record { redos = w .8 .last .0; len = a .t1 .redos .len - count .result + w .9 .result; keys = w .5 .last .0 }) (w .12 .last .0)
     (entries-added (a .t1) (a .line) (f .below) (lent s) (count .result) (lacks e) (count .ensures .0) (w .9 .result) (w .5 .last .0) (w .8 .last .0)
     (f .narrow) (f .fits .working) (few s) whole (rw states at added) (omega arith) (rw (holder, states) at keys) (rw states at redos))
-    (w .12 .ensures)))
+    (put-there (a .t1 .lines .states) (w .12 .last .0) (a .line) 0 (place e) (w .12 .ensures))))
     (λ w.
     let all = a .t1 .lines .states in
     let left = w .0 .left in
@@ -209,14 +206,14 @@ evicted-spec =
     (λ c. search needs)
     (λ c. search needs)
     returns-2
-    (λ c κs. place (unread c))
-    (λ c κs. place (unread (c .before .before .before .before)))
+    (λ c κs. search needs)
+    (λ c κs. search needs)
     (λ c κs. search needs)
     (λ c κs. search needs)
     sub-state
     (λ c κs. search needs)
     add-state
-    put-states-requires
+    (λ c κs. search needs)
     add-state-2
     (λ c. search needs)
     returns-3)

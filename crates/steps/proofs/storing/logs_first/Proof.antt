@@ -1,10 +1,14 @@
 -- `logs_first` is the model's count.
-use Prim.Native.Nat.{_/_, _<_}
-use mathlib.Core.Path.{_≡_, sym, _∙_}
+use Prim.Native.Nat.{ℕ, _/_, _%_, _<_}
+use mathlib.Core.Path.{_≡_, sym, ap, _∙_}
+use mathlib.Core.List.{List}
+use native.Mathlib.Omega.{arith}
 use mathlib.Core.Bool.{true, false}
-use lib.ListN.{length}
+use lib.ListN.{length, getD}
 use borrow.Author.Needs.{needs}
 use Rattle.buffers.specs.Waiting.{undosWaiting}
+use Rattle.parts.specs.States.{stateAt}
+use Rattle.lines.proofs.LinesInUse.{state-there}
 use Rattle.model.specs.Machine.{stateIn}
 use Rattle.state.specs.declared.Machine.{Machine}
 use Rattle.state.specs.View.{view}
@@ -16,7 +20,11 @@ use Rattle.steps.proofs.storing.logs_first.Tie as tie
 module _ (c : tie.After-state-of) (s : Machine) (states : s .lines .states ≡ c .before .args .states .now) (len : s .undos .len ≡ c .before .args .len)
     (below : c .before .args .word / 8 < s .words / 8) where
   kind : c .state-of .result ≡ stateIn (view s .lines) (c .before .args .word)
-  kind = c .state-of .ensures (s .lines) states (s .words / 8) below
+  kind =
+      let w = c .before .args .word in
+      c .state-of .ensures
+      ∙ ap (λ (ss : List ℕ). stateAt (getD ss (w / 8 % 64) 0) (w % 8)) (sym states)
+      ∙ state-there (s .lines) (s .words / 8) w (omega arith) below
 
   waiting : c .before .args .len ≡ length (undosWaiting (s .undos))
   waiting = sym (undos-length (s .undos) ∙ len)

@@ -1,7 +1,7 @@
 -- `next_state` is the model's state after a store.
 use borrow.Author.Needs.{needs}
 use borrow.Author.Tests.{eq-eqb, ne-eqb}
-use Prim.Native.Nat.{ℕ, _+_, _-_, _/_, _≤_, _<_}
+use Prim.Native.Nat.{ℕ, _+_, _-_, _/_, _%_, _≤_, _<_}
 use mathlib.Core.Path.{_≡_, refl, sym, ap, _∙_}
 use mathlib.Core.Bool.{true, false}
 use mathlib.Core.List.{List, []}
@@ -23,6 +23,7 @@ use Rattle.model.specs.Machine.{Memory, changed, heldBy, dirtyAs, stateIn, with
 use Rattle.model.specs.Steps.{undosLogged, storeNext}
 use Rattle.state.specs.declared.Machine.{Machine}
 use Rattle.state.specs.View.{view}
+use Rattle.lines.proofs.LinesInUse.{put-there, state-there}
 use Rattle.lines.proofs.WordStates.{withStates, first-marked}
 use Rattle.buffers.proofs.LoggedLines.{whole-logged}
 use Rattle.steps.proofs.Outcome.{withParts}
@@ -52,7 +53,7 @@ returns c mem was =
     (firstLines (s .words / 8) (withHolders (c .before .before .put-holder .last .0) (s .lines .dirty) (s .lines)))
     (eq-eqb (e .redo) (e .undo) (c .if1 .taken))
     (held-lines (s .words / 8) (s .lines) (e .word / 8) (e .thread) (c .before .before .put-holder .last .0) whole (omega arith)
-    (c .before .before .put-holder .ensures))
+    (put-there (s .lines .holders) _ (e .word / 8) (e .thread) (omega arith) (c .before .before .put-holder .ensures)))
 
 -- another value comes, and the line is claimed
 module _ (c : tie.After-put-flag) where
@@ -77,11 +78,19 @@ module _ (c : tie.After-put-flag) where
   whole-undos : WholeUndos (s .undos)
   whole-undos = whole-buffer start
 
+  holders-put : lines .holders ≡ set (s .lines .holders) (e .word / 8) (e .thread)
+  holders-put =
+      let p = start .pre in
+      put-there (s .lines .holders) (lines .holders) (e .word / 8) (e .thread) (omega arith) (c .before .before .before .before .put-holder .ensures)
+
+  flags-put : lines .dirty ≡ set (s .lines .dirty) (e .word / 8) true
+  flags-put =
+      let p = start .pre in
+      put-there (s .lines .dirty) (lines .dirty) (e .word / 8) true (omega arith) (c .put-flag .ensures)
+
   whole-claimed : WholeLines lines
   whole-claimed =
-      whole-dirty 64 (s .lines) (e .word / 8) (e .thread) (c .before .before .before .before .put-holder .last .0) whole (omega arith)
-      (c .before .before .before .before .put-holder .ensures)
-      (c .put-flag .last .0) (c .put-flag .ensures)
+      whole-dirty 64 (s .lines) (e .word / 8) (e .thread) (lines .holders) whole (omega arith) holders-put (lines .dirty) flags-put
 
   differs : eqb (e .redo) (e .undo) ≡ false
   differs = ne-eqb (e .redo) (e .undo) (c .before .before .if1 .left)
@@ -89,13 +98,12 @@ module _ (c : tie.After-put-flag) where
   claim : firstLines (s .words / 8) lines ≡ changed (λ line. dirtyAs true (heldBy (e .thread) line)) (e .word / 8) (firstLines (s .words / 8) (s .lines))
   claim =
       let p = start .pre in
-      dirty-lines (s .words / 8) (s .lines) (e .word / 8) (e .thread) (c .before .before .before .before .put-holder .last .0) whole (omega arith)
-      (c .before .before .before .before .put-holder .ensures) (c .put-flag .last .0) (c .put-flag .ensures)
+      dirty-lines (s .words / 8) (s .lines) (e .word / 8) (e .thread) (lines .holders) whole (omega arith) holders-put (lines .dirty) flags-put
 
   kind : c .before .before .before .before .before .before .state-of .result ≡ stateIn (view s .lines) (e .word)
   kind =
       let p = start .pre in
-      c .before .before .before .before .before .before .state-of .ensures (s .lines) refl (s .words / 8) (omega arith)
+      c .before .before .before .before .before .before .state-of .ensures ∙ state-there (s .lines) (s .words / 8) (e .word) (omega arith) (omega arith)
 
   -- a word that isn't Clean: no entry was logged first
   none-first : (c .before .before .before .before .before .before .state-of .result ≡ 0 → ⊥) → view claimed ≡ undosLogged (start .args .count) (view claimed)
@@ -163,12 +171,6 @@ add-state-2 c =
     let m = c .before .before .before .before .before .before .before .before in
     let few = few-first (here m) .0 in
     let p = start (here m) .pre in
-    omega arith
-
-put-value-requires : tie.Need-put-value-requires
-put-value-requires c κs =
-    let p = start (c .before .before .before .before .before .before .before) .pre in
-    let at = c .before .if3 .taken in
     omega arith
 
 -- a Clean word has its first entry, and is Dirty
@@ -270,8 +272,10 @@ returns-4 c mem was =
     let b = s (known found) .undos in
     let p = start (known found) .pre in
     let whole = whole-undos (known found) .both .redos in
+    let below = c .before .before .if3 .taken in
+    let same : found .find2 .result % 16 ≡ found .find2 .result = omega arith in
     dirty-stored found mem was _
-    (rw (c .put-value .ensures)
+    (rw (c .put-value .ensures, same)
     (amended-at (e (known found) .word) (e (known found) .redo) (b .len) (b .keys) (b .undos) (b .redos) (found .find2 .result)
     (omega arith) (c .before .before .if3 .taken) (place found)))
 
@@ -328,7 +332,7 @@ next-state-spec =
     (λ c κs. search needs)
     (λ c. search needs)
     (λ c κs. search needs)
-    put-value-requires
+    (λ c κs. search needs)
     (λ c κs. search needs)
     returns-2
     returns-3

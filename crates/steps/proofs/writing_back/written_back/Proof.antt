@@ -1,8 +1,10 @@
 -- `written_back` meets its contract: refused, cut, or done.
 use mathlib.Core.Path.{_≡_, refl, sym, _∙_}
+use mathlib.Core.Bool.{false}
 use mathlib.Core.List.{[]}
 use native.Mathlib.Omega.{arith}
 use Rattle.lines.proofs.FirstLines.{WholeLines}
+use Rattle.lines.proofs.LinesInUse.{put-there}
 use Rattle.model.specs.Machine.{Memory}
 use Rattle.model.specs.Refusals.{numberOf}
 use Rattle.model.specs.Steps.{lineRows}
@@ -58,13 +60,6 @@ returns-2 c =
     write-cut (a .line) (a .supply) (a .state) (lent s) (s .pre) (none began) (ended .cut .result) (stored .store-line .last .0)
     (stored .store-line .ensures .1) (ended .cut .last .0) (ended .before .before .if2 .taken) (ended .cut .ensures .0) (ended .cut .ensures .1)
 
-put-flag-requires : tie.Need-put-flag-requires
-put-flag-requires c κs =
-    let began = passed (c .before .before .before .before .before) in
-    let s = start (began .before) in
-    let f = write-fit (s .args .line) (s .args .supply) (s .args .state) (lent s) (s .pre) (none began) in
-    omega arith
-
 returns-3 : tie.Need-returns-3
 returns-3 c =
     let enough = c .before .before .before in
@@ -72,9 +67,11 @@ returns-3 c =
     let began = passed stored in
     let s = start (began .before) in
     let a = s .args in
+    let f = write-fit (a .line) (a .supply) (a .state) (lent s) (s .pre) (none began) in
     write-done (a .line) (a .supply) (a .state) (lent s) (s .pre) (none began) (record { answer = 0; left = stored .store-line .result; state = _ })
     (stored .store-line .last .0) (stored .store-line .ensures .1)
-    (c .put-flag .last .0) (enough .if2 .left) refl (stored .store-line .ensures .0) refl (whole-lines s) (c .put-flag .ensures)
+    (c .put-flag .last .0) (enough .if2 .left) refl (stored .store-line .ensures .0) refl (whole-lines s)
+    (put-there (a .state .lines .dirty) (c .put-flag .last .0) (a .line) false (omega arith) (c .put-flag .ensures))
 
 pub written-back-spec : {M : Type 1} → statement M
 written-back-spec =
@@ -88,7 +85,7 @@ written-back-spec =
     (λ c. search needs)
     (λ c. search needs)
     returns-2
-    put-flag-requires
+    (λ c κs. search needs)
     (λ c. search needs)
     (λ c. search needs)
     returns-3)

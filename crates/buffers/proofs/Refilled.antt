@@ -15,7 +15,7 @@ use Rattle.parts.specs.States.{stateAt, ULog}
 use Rattle.parts.specs.Listed.{listed}
 use Rattle.buffers.specs.Waiting.{keyed, waitingOf}
 use Rattle.buffers.proofs.KeyedEntries.{keyed-of}
-use Rattle.buffers.proofs.Removed.{removed-none, length-removed, keys-closed, redos-dropped}
+use Rattle.buffers.proofs.Removed.{removed-none, length-removed, keys-removed, redos-dropped}
 use Rattle.buffers.proofs.Placed.{placed-none, placed-last, redos-placed}
 use Rattle.buffers.proofs.Waiting.{WholeKeys}
 use Rattle.model.specs.Lists.{keep, upTo}
@@ -136,7 +136,7 @@ pub entries-refilled : (len gone states holder i : ℕ) (working keys redos : Li
     ≡ drop gone (waitingOf len keys [] redos) ++ map (ulogEntry holder working i) (ulogWords states)
 entries-refilled len gone states holder i working keys redos whole few short places thread line =
     redos-placed (keysIn holder i) (valuesIn working i) 32 (ulogWords states) (len - gone) (removed 0 gone len keys)
-    (removed 0 gone len redos) (keys-closed 32 0 gone len keys redos whole) places
+    (removed 0 gone len redos) (keys-removed 32 0 gone len keys redos whole) places
     ∙ ap₂ (λ (es fs : List Entry). es ++ fs) (redos-dropped 32 len keys redos short whole gone few)
     (map-every (λ j. keyed (keysIn holder i j) 0 (valuesIn working i j)) (ulogEntry holder working i) (ulogWords states)
     (every-kept (λ j. keyed (keysIn holder i j) 0 (valuesIn working i j) ≡ ulogEntry holder working i j) _ (upTo 8)

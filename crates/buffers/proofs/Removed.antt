@@ -128,11 +128,11 @@ removed-at at gone len m xs a h l =
     ]
 
 -- the entries that are left in a buffer whose arrays are removed, `us` being the undos
-waiting-closed : (at gone len n : ℕ) (keys undos redos us : List ℕ) → at + gone ≤ len → len ≤ n → WholeKeys n keys redos
+waiting-removed : (at gone len n : ℕ) (keys undos redos us : List ℕ) → at + gone ≤ len → len ≤ n → WholeKeys n keys redos
     → ((m : ℕ) → m < len - gone → getD us m 0 ≡ getD undos (origin at gone m) 0)
     → waitingOf (len - gone) (removed at gone len keys) us (removed at gone len redos)
     ≡ take at (waitingOf len keys undos redos) ++ drop (at + gone) (waitingOf len keys undos redos)
-waiting-closed at gone len n keys undos redos us a h whole undo =
+waiting-removed at gone len n keys undos redos us a h whole undo =
     let f = entryOf keys undos redos in
     let k = whole .keys in
     let r = whole .redos in
@@ -147,34 +147,34 @@ undos-dropped n k len keys undos redos a b whole =
     let u = whole .undos in
     let e : 0 + k ≡ k = omega arith in
     rw e at
-    (waiting-closed 0 k len n keys undos redos (removed 0 k len undos) (omega arith) b (whole .both)
+    (waiting-removed 0 k len n keys undos redos (removed 0 k len undos) (omega arith) b (whole .both)
     (λ m l. removed-at 0 k len m undos (omega arith) (omega arith) l))
 
 -- the redo buffer, whose entries have no undo
 module _ (n len : ℕ) (keys redos : List ℕ) (h : len ≤ n) (whole : WholeKeys n keys redos) where
-  redos-closed : (at gone : ℕ) → at + gone ≤ len
+  redos-removed : (at gone : ℕ) → at + gone ≤ len
       → waitingOf (len - gone) (removed at gone len keys) [] (removed at gone len redos)
       ≡ take at (waitingOf len keys [] redos) ++ drop (at + gone) (waitingOf len keys [] redos)
-  redos-closed at gone a = waiting-closed at gone len n keys [] redos [] a h whole (λ m l. refl)
+  redos-removed at gone a = waiting-removed at gone len n keys [] redos [] a h whole (λ m l. refl)
 
   -- its k oldest entries dropped
   pub redos-dropped : (k : ℕ) → k ≤ len
       → waitingOf (len - k) (removed 0 k len keys) [] (removed 0 k len redos) ≡ drop k (waitingOf len keys [] redos)
   redos-dropped k a =
       let e : 0 + k ≡ k = omega arith in
-      rw e at (redos-closed 0 k (omega arith))
+      rw e at (redos-removed 0 k (omega arith))
 
   -- the oldest of a word, at its place
   pub redos-discarded : (w at : ℕ) → at < len → at ≡ indexOf w (waitingOf len keys [] redos)
       → waitingOf (len - 1) (removed at 1 len keys) [] (removed at 1 len redos) ≡ discarded w (waitingOf len keys [] redos)
-  redos-discarded w at a e = redos-closed at 1 (omega arith) ∙ discarded-at w (waitingOf len keys [] redos) at e
+  redos-discarded w at a e = redos-removed at 1 (omega arith) ∙ discarded-at w (waitingOf len keys [] redos) at e
 
 -- no field has more or fewer places after the arrays were removed
-pub keys-closed : (n at gone len : ℕ) (keys redos : List ℕ) → WholeKeys n keys redos → WholeKeys n (removed at gone len keys) (removed at gone len redos)
-keys-closed n at gone len keys redos whole =
+pub keys-removed : (n at gone len : ℕ) (keys redos : List ℕ) → WholeKeys n keys redos → WholeKeys n (removed at gone len keys) (removed at gone len redos)
+keys-removed n at gone len keys redos whole =
     record { keys = length-removed at gone len keys ∙ whole .keys; redos = length-removed at gone len redos ∙ whole .redos }
 
-pub whole-closed : (n at gone len : ℕ) (keys undos redos : List ℕ) → WholeBuffer n keys undos redos
+pub whole-removed : (n at gone len : ℕ) (keys undos redos : List ℕ) → WholeBuffer n keys undos redos
     → WholeBuffer n (removed at gone len keys) (removed at gone len undos) (removed at gone len redos)
-whole-closed n at gone len keys undos redos whole =
-    record { both = keys-closed n at gone len keys redos (whole .both); undos = length-removed at gone len undos ∙ whole .undos }
+whole-removed n at gone len keys undos redos whole =
+    record { both = keys-removed n at gone len keys redos (whole .both); undos = length-removed at gone len undos ∙ whole .undos }

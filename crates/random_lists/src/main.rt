@@ -5,40 +5,40 @@ mod choosing;
 mod digest;
 mod disturbing;
 mod generator;
-mod playing;
+mod list_steps;
 mod printing;
 mod setup;
 mod tables;
 mod the_step;
 mod wrapping;
 
-use playing::Score;
+use list_steps::Totals;
 
 // "The digest of 100 lists is one more fold: starting with 0, the digests of lists 100i, 100i + 1, .. are folded in."
-fn hundred(i: u64, before: Score) -> Score {
-    let mut score = before;
-    score.digest = 0;
+fn hundred(i: u64, before: Totals) -> Totals {
+    let mut totals = before;
+    totals.digest = 0;
     let mut j = 0;
     while j < 100 {
-        score = playing::with_list(wrapping::sum(i, j), score);
+        totals = list_steps::with_list(wrapping::sum(i, j), totals);
         j += 1;
     }
-    printing::digest(score.digest);
-    score
+    printing::digest(totals.digest);
+    totals
 }
 
 fn main() {
-    let mut score = Score {
+    let mut totals = Totals {
         digest: 0,
         steps: 0,
         counts: [0; 17],
     };
     let mut i = 0;
     while i < 36 {
-        score = hundred(100 * i, score);
+        totals = hundred(100 * i, totals);
         i += 1;
     }
-    let counts = score.counts;
+    let counts = totals.counts;
     printing::answers(counts);
-    printing::total(score.steps);
+    printing::total(totals.steps);
 }

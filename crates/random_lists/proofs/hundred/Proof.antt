@@ -5,10 +5,10 @@ use Rattle.random_lists.proofs.hundred.Statement.{statement}
 use Rattle.random_lists.proofs.hundred.Tie as tie
 
 abbrev Inv-loop : tie.InvT-loop
-Inv-loop i score₀ j₀ score j = 0 ≤ j
+Inv-loop i totals₀ j₀ totals j = 0 ≤ j
 
 abbrev μ-loop : tie.MeasureT-loop
-μ-loop i score₀ j₀ score j = 100 - j
+μ-loop i totals₀ j₀ totals j = 100 - j
 
 pub hundred-spec : {M : Type 1} → statement M
 hundred-spec =

@@ -5,10 +5,10 @@ use Rattle.random_lists.proofs.main.Statement.{statement}
 use Rattle.random_lists.proofs.main.Tie as tie
 
 abbrev Inv-loop : tie.InvT-loop
-Inv-loop score₀ i₀ score i = 0 ≤ i
+Inv-loop totals₀ i₀ totals i = 0 ≤ i
 
 abbrev μ-loop : tie.MeasureT-loop
-μ-loop score₀ i₀ score i = 36 - i
+μ-loop totals₀ i₀ totals i = 36 - i
 
 pub main-spec : {M : Type 1} → statement M
 main-spec =

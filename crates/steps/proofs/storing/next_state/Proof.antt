@@ -17,7 +17,7 @@ use Rattle.buffers.specs.Waiting.{undosWaiting, redosWaiting}
 use Rattle.parts.specs.Entries.{discarded, amended, indexOf}
 use Rattle.lines.proofs.FirstLines.{WholeLines}
 use Rattle.buffers.proofs.Waiting.{undoAt, redoAt}
-use Rattle.buffers.proofs.Removed.{undos-dropped, whole-closed}
+use Rattle.buffers.proofs.Removed.{undos-dropped, whole-removed}
 use Rattle.buffers.proofs.Places.{discarded-none, amended-at, amended-none}
 use Rattle.model.specs.Machine.{Memory, changed, heldBy, dirtyAs, stateIn, withLines, withUndoRedo, withRedo}
 use Rattle.model.specs.Steps.{undosLogged, storeNext}
@@ -154,7 +154,7 @@ module _ (c : tie.After-mark-logged) where
             marks
             (undos-dropped 16 count (old .len) (old .keys) (old .undos) (old .redos) (few-first here .1) (omega arith) whole);
         lines = whole-logged (take count (old .keys)) (lines here) (c .mark-logged .last .0) wide marks;
-        undos = whole-closed 16 0 count (old .len) (old .keys) (old .undos) (old .redos) whole;
+        undos = whole-removed 16 0 count (old .len) (old .keys) (old .undos) (old .redos) whole;
       }
 
   limits : (old .len - count < 16) × ((s here .redos .len ≤ 32) × (s here .words ≤ 512))

@@ -33,9 +33,9 @@ abbrev begin : tie.After-place-refusal → tie.Start
 begin c = c .before .before .before .before
 
 -- the number of the first rows, on thread and word
-early-here : (c : tie.After-place-refusal) → let a = begin c .args in
+place-here : (c : tie.After-place-refusal) → let a = begin c .args in
     c .place-refusal .result ≡ numberOf (placeRows (view (a .state)) (a .target .thread) (a .target .word))
-early-here c = c .place-refusal .ensures (view (begin c .args .state)) refl
+place-here c = c .place-refusal .ensures (view (begin c .args .state)) refl
 
 returns : tie.Need-returns
 returns c =
@@ -43,7 +43,7 @@ returns c =
     let s = begin d in
     let a = s .args in
     refused-way (store (a .target .thread) (a .target .word) (a .target .value)) (a .supply) (a .state) (lent s) (s .pre .1) (d .place-refusal .result)
-    (place-refused (a .state) (lent s) (a .target .thread) (a .target .word) (a .target .value) (s .pre .1) (d .place-refusal .result) (early-here d) (c .before .if1 .taken))
+    (place-refused (a .state) (lent s) (a .target .thread) (a .target .word) (a .target .value) (s .pre .1) (d .place-refusal .result) (place-here d) (c .before .if1 .taken))
     (c .before .if1 .taken) refl
     (c .refused .result) (c .refused .ensures)
 
@@ -55,7 +55,7 @@ module _ (c : tie.Else1) where
   known-here : Known (start .args .state) (lent start) (start .args .target .thread) (start .args .target .word) (start .args .target .value)
   known-here =
       known (start .args .state) (lent start) (start .args .target .thread) (start .args .target .word) (start .args .target .value) (start .pre .1)
-      (c .before .place-refusal .result) (early-here (c .before)) (c .if1 .left)
+      (c .before .place-refusal .result) (place-here (c .before)) (c .if1 .left)
 
 cast-t24 : tie.Need-cast-t24
 cast-t24 c =
@@ -138,7 +138,7 @@ module _ (c : tie.After-store-refusal) where
       let whole = k .width .whole in
       let taken = c .before .before .before .held-by-another in
       late-number (a .state) (lent begun) (a .target .thread) (a .target .word) (a .target .value) (begun .pre .1) (here .before .place-refusal .result)
-      (early-here (here .before)) (here .if1 .left) (c .before .before .before .before .is-open .result) (taken .result)
+      (place-here (here .before)) (here .if1 .left) (c .before .before .before .before .is-open .result) (taken .result)
       (c .before .logs-first .result) (c .store-refusal .result)
       (c .before .before .before .before .is-open .ensures) (count-here (c .before))
       (taken .ensures (a .state .lines) (sym (begun .pre .0 .isHolders)) (a .state .words / 8) (omega arith))

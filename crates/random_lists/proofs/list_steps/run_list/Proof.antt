@@ -1,17 +1,17 @@
--- `play` lends within the buffers, and ends.
+-- `run_list` lends within the buffers, and ends.
 use mathlib.Core.Path.{_≡_}
 use lib.ListN.{length}
 use native.Mathlib.Omega.{arith}
 use borrow.Author.Needs.{needs}
 use Rattle.random_lists.proofs.Lengths.{counted, back}
-use Rattle.random_lists.proofs.playing.play.Statement.{statement}
-use Rattle.random_lists.proofs.playing.play.Tie as tie
+use Rattle.random_lists.proofs.list_steps.run_list.Statement.{statement}
+use Rattle.random_lists.proofs.list_steps.run_list.Tie as tie
 
 abbrev Inv-loop : tie.InvT-loop
-Inv-loop home₀ working₀ log₀ list₀ score₀ left₀ home working log list score left = (length home ≡ 512) × ((length working ≡ 512) × (length log ≡ 3073))
+Inv-loop home₀ working₀ log₀ list₀ totals₀ left₀ home working log list totals left = (length home ≡ 512) × ((length working ≡ 512) × (length log ≡ 3073))
 
 abbrev μ-loop : tie.MeasureT-loop
-μ-loop home₀ working₀ log₀ list₀ score₀ left₀ home working log list score left = left
+μ-loop home₀ working₀ log₀ list₀ totals₀ left₀ home working log list totals left = left
 
 slice-aggregate-stepped : tie.Need-slice-aggregate-stepped Inv-loop μ-loop
 slice-aggregate-stepped c = counted (c .before .lent-in .result .home) 512 (c .before .before .before .before .loop .home)
@@ -42,8 +42,8 @@ loop-again c =
       ),
     )
 
-pub play-spec : {M : Type 1} → statement M
-play-spec =
+pub run-list-spec : {M : Type 1} → statement M
+run-list-spec =
     tie.close
     (tie.spec
     Inv-loop

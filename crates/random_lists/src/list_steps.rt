@@ -21,14 +21,14 @@ use machine::State;
 use state::CUT;
 
 // The digest of the lists so far, their steps, and how often each answer was given, 255 at 16
-pub struct Score {
+pub struct Totals {
     pub digest: u64,
     pub steps: u64,
     pub counts: [u64; 17],
 }
 
-impl Score {
-    fn counted(mut self, answer: u64) -> Score {
+impl Totals {
+    fn counted(mut self, answer: u64) -> Totals {
         let at = (either(answer == CUT, 16, answer) % 17) as usize;
         self.counts[at] = sum(self.counts[at], 1);
         self
@@ -124,15 +124,15 @@ impl UnderWay {
 }
 
 // "This is done `steps` times."
-fn play(
+fn run_list(
     start: UnderWay,
-    before: Score,
+    before: Totals,
     mut home: [u64; 512],
     mut working: [u64; 512],
     mut log: [u64; 3073],
-) -> Score {
+) -> Totals {
     let mut list = start;
-    let mut score = before;
+    let mut totals = before;
     let mut left = start.plan.steps;
     while left > 0 {
         left -= 1;
@@ -143,14 +143,14 @@ fn play(
         let l = lent.log;
         list = list.stepped(&mut home[..h], &mut working[..w], &mut log[..l]);
         list = list.folded(left == 0, &home, &working, &log);
-        score = score.counted(list.answer);
+        totals = totals.counted(list.answer);
     }
-    score.digest = fold(score.digest, list.digest);
-    score
+    totals.digest = fold(totals.digest, list.digest);
+    totals
 }
 
 // List n
-pub(crate) fn with_list(n: u64, before: Score) -> Score {
+pub(crate) fn with_list(n: u64, before: Totals) -> Totals {
     let mut home = [0u64; 512];
     let mut working = [0u64; 512];
     let mut log = [0u64; 3073];
@@ -158,7 +158,7 @@ pub(crate) fn with_list(n: u64, before: Score) -> Score {
     let x = fill(plan.x, plan.w, &mut home, true);
     let y = fill(x, plan.w, &mut working, false);
     fill_log(plan.head, plan.l, &mut log);
-    let mut score = play(fresh(plan, y), before, home, working, log);
-    score.steps = sum(score.steps, plan.steps);
-    score
+    let mut totals = run_list(fresh(plan, y), before, home, working, log);
+    totals.steps = sum(totals.steps, plan.steps);
+    totals
 }

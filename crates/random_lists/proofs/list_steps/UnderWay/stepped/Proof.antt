@@ -1,8 +1,8 @@
 -- `stepped` is safe, and leaves the lengths as they were.
 use mathlib.Core.Path.{_∙_}
 use borrow.Author.Needs.{needs}
-use Rattle.random_lists.proofs.playing.UnderWay.stepped.Statement.{statement}
-use Rattle.random_lists.proofs.playing.UnderWay.stepped.Tie as tie
+use Rattle.random_lists.proofs.list_steps.UnderWay.stepped.Statement.{statement}
+use Rattle.random_lists.proofs.list_steps.UnderWay.stepped.Tie as tie
 
 same-length-3 : tie.Need-same-length-3
 same-length-3 c = c .before .before .before .before .before .before .before .make-step .kept .1 .1 .1 .1 .0

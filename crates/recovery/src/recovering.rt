@@ -54,11 +54,7 @@ fn unreadable(home: &[u64], working: &[u64], log: &[u64]) -> u64
 fn refused(number: u64, supply: u64) -> Outcome
     ensures { λ (r : Outcome). ⌜ r ≡ record { answer = number; left = supply; state = lostFields } ⌝ }
 {
-    Outcome {
-        answer: number,
-        left: supply,
-        state: lost(),
-    }
+    state::refused(number, supply, lost())
 }
 
 // "the new state has empty buffers, all Clean, unheld, not dirty, no transaction"

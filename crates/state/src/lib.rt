@@ -1,5 +1,5 @@
 // The state by its fields, what a step hands back, and what every step shares: the test of a consistent state, that of
-// the lent lengths, the lost state and the way out of a cut.
+// the lent lengths, the lost state, and the ways out of a step that is refused or cut.
 use buffers::RedoBuffer;
 use buffers::UndoBuffer;
 use lines::Lines;
@@ -17,6 +17,7 @@ pub use consistency::is_consistent;
 pub use memory::wrong_lengths;
 pub use ways_out::cut;
 pub use ways_out::lost;
+pub use ways_out::refused;
 
 // A state by its fields. `lost` is document 01's "dark". `lines` and the buffers may have places that are not in use.
 // Between two large arrays stands a number, so that the compiler copies each by itself (docs/DECISIONS.md).

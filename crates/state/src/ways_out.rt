@@ -1,4 +1,4 @@
-// What a loss of supply leaves: the lost state, and a step that was cut.
+// The ways out of a step that is not done: refused, or cut by a loss of supply, which leaves the lost state.
 ghost use mathlib.Core.Path.{_≡_};
 ghost use lib.ListN.{length, replicate};
 ghost use Rattle.state.specs.HandedBack.{lostFields};
@@ -28,6 +28,17 @@ pub fn lost() -> Machine
         },
         undos: UndoBuffer::empty(),
         redos: RedoBuffer::empty(),
+    }
+}
+
+// "State, buffers and count are unchanged"
+pub fn refused(number: u64, supply: u64, state: Machine) -> Outcome
+    ensures { λ (r : Outcome). ⌜ r ≡ record { answer = number; left = supply; state = state } ⌝ }
+{
+    Outcome {
+        answer: number,
+        left: supply,
+        state: state,
     }
 }
 

@@ -6,12 +6,12 @@ ghost use Rattle.model.specs.Step.{begin, stepped};
 ghost use Rattle.state.specs.View.{view, shown};
 ghost use Rattle.state.specs.HandedBack.{HandedBack};
 use crate::refusals::refuse;
-use crate::refusals::refused;
 use state::BUSY;
 use state::DONE;
 use state::Machine;
 use state::Outcome;
 use state::THREAD;
+use state::refused;
 
 // The step, of a state that is neither lost nor inconsistent.
 pub(crate) fn begun(mut state: Machine, supply: u64, thread: u64) -> Outcome

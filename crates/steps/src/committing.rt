@@ -17,7 +17,6 @@ ghost use Rattle.steps.specs.LentParts.{TakenOut, LogOf};
 use crate::refusals::is_open;
 use crate::refusals::no_room;
 use crate::refusals::refuse;
-use crate::refusals::refused;
 use buffers::append_redos;
 use buffers::append_undos;
 use buffers::mark_logged;
@@ -32,6 +31,7 @@ use state::Machine;
 use state::Outcome;
 use state::THREAD;
 use state::cut;
+use state::refused;
 
 // The number of records that the thread's commit logs, with so many entries in the buffers.
 fn count_records<'a>(

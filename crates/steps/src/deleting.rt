@@ -5,7 +5,6 @@ ghost use Rattle.model.specs.Step.{deleteOldest, stepped};
 ghost use Rattle.model.specs.Steps.{verdictRows};
 ghost use Rattle.state.specs.View.{view, memory, shown};
 ghost use Rattle.state.specs.HandedBack.{HandedBack};
-use crate::refusals::refused;
 use parts::Verdict;
 use recovery::oldest_verdict;
 use state::DAMAGED;
@@ -15,6 +14,7 @@ use state::NEEDED;
 use state::NOTHING;
 use state::Outcome;
 use state::cut;
+use state::refused;
 
 // The number under which a delete is refused by the verdict on the oldest record, or 0.
 fn refusal(verdict: Verdict) -> u64

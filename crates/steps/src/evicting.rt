@@ -9,7 +9,6 @@ ghost use Rattle.model.specs.Step.{evict, stepped};
 ghost use Rattle.state.specs.View.{view, memory, shown};
 ghost use Rattle.state.specs.HandedBack.{HandedBack};
 use crate::refusals::no_room;
-use crate::refusals::refused;
 use crate::writing_back::line_refusal;
 use buffers::append_redos;
 use buffers::refill_keys;
@@ -22,6 +21,7 @@ use state::DONE;
 use state::Machine;
 use state::Outcome;
 use state::cut;
+use state::refused;
 
 // How many of `len` redo entries have to be logged for those of a line to find places.
 fn lacking(len: usize, states: &[u16; 64], line: u64) -> usize

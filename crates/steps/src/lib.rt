@@ -6,7 +6,6 @@ mod deleting;
 mod evicting;
 mod log_oldest;
 mod refusals;
-mod sizes;
 mod stepping;
 mod storing;
 mod writing_back;

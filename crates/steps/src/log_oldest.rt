@@ -13,7 +13,6 @@ ghost use Rattle.state.specs.View.{view, memory, shown};
 ghost use Rattle.state.specs.HandedBack.{HandedBack};
 ghost use Rattle.steps.specs.LentParts.{LogOf};
 use crate::refusals::no_room;
-use crate::refusals::refused;
 use buffers::RedoBuffer;
 use buffers::UndoBuffer;
 use buffers::append_redos;
@@ -24,6 +23,7 @@ use state::Machine;
 use state::NOTHING;
 use state::Outcome;
 use state::cut;
+use state::refused;
 
 // The number under which the oldest entry of a buffer of `len` entries is not logged, or 0.
 fn refusal(len: usize, slots: u16, head: u64, tail: u64) -> u64

@@ -6,28 +6,33 @@ ghost use lib.ListN.{getD};
 ghost use Rattle.log.specs.Region.{numbers};
 ghost use Rattle.model.specs.Machine.{Machine as Model, Memory};
 ghost use Rattle.model.specs.Consistent.{consistent};
-ghost use Rattle.model.specs.Refusals.{numberOf, noRoom, common as commonRows};
+ghost use Rattle.model.specs.Refusals.{numberOf, noRoom, wrongSize, common as commonRows};
 ghost use Rattle.state.specs.View.{memory};
 ghost use Rattle.steps.specs.LentParts.{LogOf};
-use crate::sizes::wrong_size;
 use log::NUMBERS;
 use state::EXHAUSTED;
 use state::FULL;
 use state::INCONSISTENT;
 use state::LOST;
-use state::Machine;
-use state::Outcome;
 use state::SIZE;
+use state::wrong_lengths;
 
-// "State, buffers and count are unchanged"
-pub(crate) fn refused(number: u64, supply: u64, state: Machine) -> Outcome
-    ensures { λ (r : Outcome). ⌜ r ≡ record { answer = number; left = supply; state = state } ⌝ }
+// A length is wrong, or, unless the state is lost, differs from its W or L.
+fn wrong_size(
+    lost: bool,
+    words: u16,
+    slots: u16,
+    home: &[u64],
+    working: &[u64],
+    log: &[u64],
+) -> bool
+    ensures { λ r. ⌜ ((m : Model) → m .lost ≡ lost → m .sizes .words ≡ words → m .sizes .slots ≡ slots
+        → r ≡ wrongSize m (memory (now (home .entry)) (now (working .entry)) (now (log .entry)))) ⌝ }
 {
-    Outcome {
-        answer: number,
-        left: supply,
-        state: state,
-    }
+    let width = words as usize;
+    let count = slots as u64;
+    wrong_lengths(home, working, log)
+        | (!lost & ((home.len() != width) | (log::slots(log) != count)))
 }
 
 // A row of the table before the rest of them.

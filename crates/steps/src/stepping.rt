@@ -15,7 +15,6 @@ use crate::log_oldest::redo_logged;
 use crate::log_oldest::undo_logged;
 use crate::refusals::common;
 use crate::refusals::refuse;
-use crate::refusals::refused;
 use crate::storing::Target;
 use crate::storing::stored;
 use crate::writing_back::written_back;
@@ -27,6 +26,7 @@ use state::LOST;
 use state::Machine;
 use state::Outcome;
 use state::is_consistent;
+use state::refused;
 
 // Every step but a recovery takes a state.
 fn takes_state(step: Step) -> bool

@@ -19,7 +19,6 @@ ghost use Rattle.steps.specs.LentParts.{TakenOut, LogOf};
 use crate::refusals::is_open;
 use crate::refusals::no_room;
 use crate::refusals::refuse;
-use crate::refusals::refused;
 use buffers::RedoBuffer;
 use buffers::UndoBuffer;
 use buffers::append_undos;
@@ -48,6 +47,7 @@ use state::Outcome;
 use state::PLACE;
 use state::THREAD;
 use state::cut;
+use state::refused;
 
 // A thread other than this one holds the line of the word.
 fn held_by_another(holders: &[u8; 64], thread: u64, word: u16) -> bool

@@ -11,7 +11,6 @@ ghost use Rattle.model.specs.Step.{writeBack, stepped};
 ghost use Rattle.state.specs.View.{view, memory, shown};
 ghost use Rattle.state.specs.HandedBack.{HandedBack};
 use crate::refusals::refuse;
-use crate::refusals::refused;
 use lines::has_dirty;
 use lines::put_flag;
 use lines::store_line;
@@ -21,6 +20,7 @@ use state::Outcome;
 use state::PENDING;
 use state::PLACE;
 use state::cut;
+use state::refused;
 
 // The rows of a step on a line that must not be pending, before the rest of its rows. `states` are those of the 64
 // lines.

@@ -1,8 +1,8 @@
--- `sizes::wrong_size` meets its contract: the code's test is the definition's.
+-- `wrong_size` meets its contract: the code's test is the definition's.
 use Rattle.model.specs.Refusals.{wrongSize}
 use borrow.Author.Needs.{needs}
-use Rattle.steps.proofs.sizes.wrong_size.Statement.{statement}
-use Rattle.steps.proofs.sizes.wrong_size.Tie as tie
+use Rattle.steps.proofs.refusals.wrong_size.Statement.{statement}
+use Rattle.steps.proofs.refusals.wrong_size.Tie as tie
 
 returns : tie.Need-returns
 unfolding wrongSize

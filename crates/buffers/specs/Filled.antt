@@ -6,8 +6,8 @@ use Rattle.lines.specs.Walks.{ulogWords}
 use Rattle.buffers.specs.Keys.{keyOf}
 use Rattle.buffers.specs.Arrays.{placed, removed}
 
--- "each ULog word, rising, adds a redo entry": an array of the redo buffer's 32 places after it, f giving the number for
--- a word; of the `len` entries before, the `gone` oldest are taken out
+-- "each ULog word, rising, adds a redo entry": an array of the redo buffer's 32 places after it, f giving a word's
+-- number; of the `len` entries before, the `gone` oldest are taken out
 abbrev pub refilled : (ℕ → ℕ) → ℕ → ℕ → ℕ → List ℕ → List ℕ
 refilled f len gone states xs = placed (len - gone) (map f (ulogWords states)) (removed 0 gone len xs)
 

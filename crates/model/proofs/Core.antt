@@ -224,7 +224,8 @@ kept {l} words mem s rs head width size working holds safe =
 -- those of a live machine
 pub live-kept : {l : ℕ} (m : Machine) (mem : Memory) (b : Book) → Live l m mem b → Kept l mem (b .committed)
 live-kept m mem b world =
-    kept (m .sizes .words) mem (b .committed) (world .rs) (m .span .head) (world .width) (world .core .shape .homeSize) (world .core .shape .workingSize) (world .holds)
+    kept (m .sizes .words) mem (b .committed) (world .rs) (m .span .head) (world .width) (world .core .shape .homeSize) (world .core .shape .workingSize)
+    (world .holds)
     (core-safe (world .core))
 
 -- the limits of a width

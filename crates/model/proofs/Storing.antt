@@ -177,7 +177,8 @@ module _ (home working : List ℕ) (b : Book) (rs : List Record) (m : Machine) (
     (t w v : ℕ) (thread : t < 8) (within : w < m .sizes .words) (held : holderIn (m .lines) w ≡ t) where
   -- A thread stores a value in a word that it holds: the other words are as before, and this one's new state is to be shown.
   rewritten : {ls : List Line} {us ds : List Entry} → SameLines (m .opened) w (m .lines) ls → SameEntries (m .sizes .words) 16 w (m .buffers .undoRedo) us
-      → SameEntries (m .sizes .words) 32 w (m .buffers .redo) ds → (dirtyIn (m .lines) w ≡ false → or (says w (dirtyIn (m .lines) w) rs .late) (getD home w 0) ≡ v)
+      → SameEntries (m .sizes .words) 32 w (m .buffers .redo) ds
+      → (dirtyIn (m .lines) w ≡ false → or (says w (dirtyIn (m .lines) w) rs .late) (getD home w 0) ≡ v)
       → State (says w (dirtyIn (m .lines) w) rs) (b .committed w) (getD home w 0) v t (dirtyIn (m .lines) w) (stateIn ls w)
       (entriesOf w us) (entriesOf w ds)
       → Core (m .sizes .words) (m .opened) ls us ds rs home (set working w v) (b .committed) (entering (b .pending) t w v)
@@ -265,7 +266,8 @@ module _ (home working : List ℕ) (b : Book) (rs : List Record) (m : Machine) (
       )
 
   -- a store of another value to a Clean word
-  stored-clean : dirtyIn (m .lines) w ≡ true → length (m .buffers .undoRedo) < 16 → entriesOf w (m .buffers .undoRedo) ≡ [] → drop 1 (entriesOf w (m .buffers .redo)) ≡ []
+  stored-clean : dirtyIn (m .lines) w ≡ true → length (m .buffers .undoRedo) < 16 → entriesOf w (m .buffers .undoRedo) ≡ []
+      → drop 1 (entriesOf w (m .buffers .redo)) ≡ []
       → or (lastTo w (undoWrites rs)) (getD working w 0) ≡ b .committed w
       → CoreOf (storedAs Clean t w (getD working w 0) v m) home (set working w v) (entered (store t w v) b) rs
   unfolding storedAs entered keep
@@ -306,7 +308,8 @@ module _ (home working : List ℕ) (b : Book) (rs : List Record) (m : Machine) (
             same-lines
             (record {
               size = rw (length-amended w v (m .buffers .undoRedo)) (core .shape .undos .size);
-              ok = every-amended (EntryOk (m .sizes .words)) w v (m .buffers .undoRedo) (λ e ok. record { thread = ok .thread; word = ok .word }) (core .shape .undos .ok);
+              ok = every-amended (EntryOk (m .sizes .words)) w v (m .buffers .undoRedo) (λ e ok. record { thread = ok .thread; word = ok .word })
+                  (core .shape .undos .ok);
               entries = λ u ne. entries-amended u w v (m .buffers .undoRedo) ne;
             })
             same-redos

@@ -35,8 +35,8 @@ ample = 2 ^ 64 - 1
 abbrev pub under : ℕ → Step → ℕ → ℕ → Expected
 under c s answer stores = record { timed = record { step = s; supply = c }; answer = answer; stores = stores }
 
-abbrev pub expect : Step → ℕ → ℕ → Expected
-expect = under ample
+abbrev pub does : Step → ℕ → ℕ → Expected
+does = under ample
 
 -- "W = 8, L = 8, home 0, fresh log", but for the head
 abbrev pub startOf : Scenario → World
@@ -83,11 +83,11 @@ slotIs s u r h =
 
 -- "recovered"
 abbrev pub recovered : Expected
-recovered = expect recover 0 1
+recovered = does recover 0 1
 
 -- one transaction of thread 0 that stores v into word 0
 abbrev pub transaction : ℕ → List Expected
-transaction v = expect (begin 0) 0 0 ∷ expect (store 0 0 v) 0 0 ∷ expect (commit 0) 0 6 ∷ []
+transaction v = does (begin 0) 0 0 ∷ does (store 0 0 v) 0 0 ∷ does (commit 0) 0 6 ∷ []
 
 abbrev pub fresh : List Expected → List Store → ℕ → ℕ → Scenario
 fresh steps log home working = record { head = 0; steps = recovered ∷ steps; log = log; home = home; working = working }
@@ -104,57 +104,57 @@ p1 =
 abbrev pub p2 : List Scenario
 p2 =
     fresh (transaction 7) (slotIs 0 0 7 0x0500000000000000 ++ slotIs 1 0 0 0x0700000000000000) 0 7
-    ∷ fresh (transaction 7 ++ (expect recover 0 2 ∷ [])) (headIs 2 ∷ []) 7 7
+    ∷ fresh (transaction 7 ++ (does recover 0 2 ∷ [])) (headIs 2 ∷ []) 7 7
     ∷ []
 
 -- P2's commit under a supply of c, with its answer and its stores
 abbrev pub commitUnder : ℕ → ℕ → ℕ → List Expected
-commitUnder c answer stores = expect (begin 0) 0 0 ∷ expect (store 0 0 7) 0 0 ∷ under c (commit 0) answer stores ∷ []
+commitUnder c answer stores = does (begin 0) 0 0 ∷ does (store 0 0 7) 0 0 ∷ under c (commit 0) answer stores ∷ []
 
 -- "P3: as P2 with count 5 at commit: cut; recover leaves 0, head 1."
 abbrev pub p3 : List Scenario
-p3 = fresh (commitUnder 5 255 5 ++ (expect recover 0 2 ∷ [])) (headIs 1 ∷ []) 0 0 ∷ []
+p3 = fresh (commitUnder 5 255 5 ++ (does recover 0 2 ∷ [])) (headIs 1 ∷ []) 0 0 ∷ []
 
 -- store 7, log undo, store 9
 abbrev pub twoStores : List Expected
-twoStores = expect (begin 0) 0 0 ∷ expect (store 0 0 7) 0 0 ∷ expect logUndo 0 3 ∷ expect (store 0 0 9) 0 0 ∷ []
+twoStores = does (begin 0) 0 0 ∷ does (store 0 0 7) 0 0 ∷ does logUndo 0 3 ∷ does (store 0 0 9) 0 0 ∷ []
 
 -- "P4: store 7, log undo, store 9, write home, commit (6 stores): recover makes 3 and leaves 9."
 abbrev pub p4 : List Scenario
-p4 = fresh (twoStores ++ (expect (writeBack 0) 0 8 ∷ expect (commit 0) 0 6 ∷ expect recover 0 3 ∷ [])) (headIs 3 ∷ []) 9 9
+p4 = fresh (twoStores ++ (does (writeBack 0) 0 8 ∷ does (commit 0) 0 6 ∷ does recover 0 3 ∷ [])) (headIs 3 ∷ []) 9 9
     ∷ []
 
 -- "P5: P4 without commit: 2 stores, 0."
 abbrev pub p5 : List Scenario
-p5 = fresh (twoStores ++ (expect (writeBack 0) 0 8 ∷ expect recover 0 2 ∷ [])) (headIs 1 ∷ []) 0 0 ∷ []
+p5 = fresh (twoStores ++ (does (writeBack 0) 0 8 ∷ does recover 0 2 ∷ [])) (headIs 1 ∷ []) 0 0 ∷ []
 
 -- "P6: store 7, log undo, store 9, set down, store 11, commit: 3 records in the log, recover leaves 11.
 -- With log undo in place of commit: 0."
 abbrev pub p6 : List Scenario
 p6 =
-    let steps = twoStores ++ (expect (evict 0) 0 0 ∷ expect (store 0 0 11) 0 0 ∷ []) in
-    fresh (steps ++ (expect (commit 0) 0 6 ∷ expect recover 0 3 ∷ [])) (headIs 3 ∷ []) 11 11
-    ∷ fresh (steps ++ (expect logUndo 0 3 ∷ expect recover 0 3 ∷ [])) (headIs 2 ∷ []) 0 0
+    let steps = twoStores ++ (does (evict 0) 0 0 ∷ does (store 0 0 11) 0 0 ∷ []) in
+    fresh (steps ++ (does (commit 0) 0 6 ∷ does recover 0 3 ∷ [])) (headIs 3 ∷ []) 11 11
+    ∷ fresh (steps ++ (does logUndo 0 3 ∷ does recover 0 3 ∷ [])) (headIs 2 ∷ []) 0 0
     ∷ []
 
 -- "P7: store 0; thread 1 begins and stores word 3: 8."
 abbrev pub p7 : List Scenario
-p7 = fresh (expect (begin 0) 0 0 ∷ expect (store 0 0 0) 0 0 ∷ expect (begin 1) 0 0 ∷ expect (store 1 3 1) 8 0 ∷ []) [] 0 0 ∷ []
+p7 = fresh (does (begin 0) 0 0 ∷ does (store 0 0 0) 0 0 ∷ does (begin 1) 0 0 ∷ does (store 1 3 1) 8 0 ∷ []) [] 0 0 ∷ []
 
 -- "P8: store 7, write home: 9."
 abbrev pub p8 : List Scenario
-p8 = fresh (expect (begin 0) 0 0 ∷ expect (store 0 0 7) 0 0 ∷ expect (writeBack 0) 9 0 ∷ []) [] 0 7 ∷ []
+p8 = fresh (does (begin 0) 0 0 ∷ does (store 0 0 7) 0 0 ∷ does (writeBack 0) 9 0 ∷ []) [] 0 7 ∷ []
 
 -- "P9: after P2's commit, delete: 15. After write home: done, done, then 12."
 abbrev pub p9 : List Scenario
 p9 =
     fresh
     (transaction 7 ++
-    (expect deleteOldest 15 0
-    ∷ expect (writeBack 0) 0 8
-    ∷ expect deleteOldest 0 1
-    ∷ expect deleteOldest 0 1
-    ∷ expect deleteOldest 12 0
+    (does deleteOldest 15 0
+    ∷ does (writeBack 0) 0 8
+    ∷ does deleteOldest 0 1
+    ∷ does deleteOldest 0 1
+    ∷ does deleteOldest 12 0
     ∷ []))
     (headIs 2 ∷ [])
     7
@@ -168,11 +168,11 @@ fourTransactions = transaction 1 ++ (transaction 2 ++ (transaction 3 ++ transact
 -- before the fifth: its headers are 0100000000000000 and 0300000000000000."
 abbrev pub p10 : List Scenario
 p10 =
-    fresh (fourTransactions ++ (expect (begin 0) 0 0 ∷ expect (store 0 0 5) 0 0 ∷ expect (commit 0) 10 0 ∷ [])) (headIs 0
+    fresh (fourTransactions ++ (does (begin 0) 0 0 ∷ does (store 0 0 5) 0 0 ∷ does (commit 0) 10 0 ∷ [])) (headIs 0
     ∷ []) 0 5
     ∷ fresh
     (fourTransactions ++
-    (expect (writeBack 0) 0 8 ∷ expect deleteOldest 0 1 ∷ expect deleteOldest 0 1 ∷ transaction 5))
+    (does (writeBack 0) 0 8 ∷ does deleteOldest 0 1 ∷ does deleteOldest 0 1 ∷ transaction 5))
     (headIs 2 ∷ (slotIs 0 4 5 0x0100000000000000 ++ slotIs 1 0 0 0x0300000000000000))
     4
     5
@@ -185,23 +185,23 @@ headAt n steps = record { head = n; steps = steps; log = headIs n ∷ []; home =
 -- "P11: recover with head 2^48 is done; then begin and commit: 11. Head 2^48 + 1: 13."
 abbrev pub p11 : List Scenario
 p11 =
-    headAt (2 ^ 48) (recovered ∷ expect (begin 0) 0 0 ∷ expect (commit 0) 11 0 ∷ [])
-    ∷ headAt (2 ^ 48 + 1) (expect recover 13 0 ∷ [])
+    headAt (2 ^ 48) (recovered ∷ does (begin 0) 0 0 ∷ does (commit 0) 11 0 ∷ [])
+    ∷ headAt (2 ^ 48 + 1) (does recover 13 0 ∷ [])
     ∷ []
 
 -- "Plausible, and wrong", but for two entries, which P7 and P6 show: a redo entry discarded by a write home, an
 -- undo+redo entry whose halves became equal, and equal home and working words of a line whose record is needed
 abbrev pub plausible : List Scenario
 plausible =
-    fresh (twoStores ++ (expect (evict 0) 0 0 ∷ expect (writeBack 0) 0 8 ∷ expect (commit 0) 0 6 ∷ expect recover 0 3
+    fresh (twoStores ++ (does (evict 0) 0 0 ∷ does (writeBack 0) 0 8 ∷ does (commit 0) 0 6 ∷ does recover 0 3
     ∷ [])) [] 9 9
     ∷ fresh
-    (twoStores ++ (expect (evict 0) 0 0 ∷ expect (store 0 0 11) 0 0 ∷ expect (store 0 0 9) 0 0 ∷ expect (commit 0) 0 6
-    ∷ expect recover 0 3 ∷ []))
+    (twoStores ++ (does (evict 0) 0 0 ∷ does (store 0 0 11) 0 0 ∷ does (store 0 0 9) 0 0 ∷ does (commit 0) 0 6
+    ∷ does recover 0 3 ∷ []))
     []
     9
     9
-    ∷ fresh (transaction 7 ++ (expect (begin 0) 0 0 ∷ expect (store 0 0 0) 0 0 ∷ expect deleteOldest 15 0 ∷ expect recover 0 2
+    ∷ fresh (transaction 7 ++ (does (begin 0) 0 0 ∷ does (store 0 0 0) 0 0 ∷ does deleteOldest 15 0 ∷ does recover 0 2
     ∷ [])) [] 7 7
     ∷ []
 
@@ -212,12 +212,12 @@ edges =
     fresh (commitUnder 6 0 6) [] 0 7
     ∷ fresh (commitUnder 5 255 5) [] 0 0
     ∷ fresh
-    (expect (begin 0) 0 0 ∷ expect (store 0 0 7) 0 0 ∷ expect logUndo 0 3 ∷ expect (writeBack 0) 0 8 ∷ expect deleteOldest 15 0
-    ∷ expect recover 0 2 ∷ [])
+    (does (begin 0) 0 0 ∷ does (store 0 0 7) 0 0 ∷ does logUndo 0 3 ∷ does (writeBack 0) 0 8 ∷ does deleteOldest 15 0
+    ∷ does recover 0 2 ∷ [])
     []
     0
     0
-    ∷ fresh (twoStores ++ (expect (begin 1) 0 0 ∷ expect (commit 1) 0 3 ∷ expect recover 0 2 ∷ [])) (headIs 2 ∷ []) 0 0
+    ∷ fresh (twoStores ++ (does (begin 1) 0 0 ∷ does (commit 1) 0 3 ∷ does recover 0 2 ∷ [])) (headIs 2 ∷ []) 0 0
     ∷ []
 
 abbrev pub scenarios : List Scenario

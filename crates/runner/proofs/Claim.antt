@@ -33,7 +33,8 @@ module _ (w : World) (s : Script) (p : Report) (run : MadeRun w s p) where
 answer-at : (w : World) (xs : List Timed) (s : Timed) (ys : List Timed) → getD (answersOf w (xs ++ (s ∷ ys))) (length xs) cut ≡ outcome (ran w xs) s .answer
 unfolding answersOf
 answer-at w xs s ys =
-    let e : answersOf w (xs ++ (s ∷ ys)) ≡ answersOf w xs ++ (outcome (ran w xs) s .answer ∷ answersOf (after (ran w xs) s) ys) = answers-append w xs (s ∷ ys) in
+    let e : answersOf w (xs ++ (s ∷ ys)) ≡ answersOf w xs ++ (outcome (ran w xs) s .answer ∷ answersOf (after (ran w xs) s) ys) = answers-append w xs
+    (s ∷ ys) in
     rw e (getD-at (answersOf w xs) (outcome (ran w xs) s .answer) _ cut (length xs) (length-answers w xs))
 
 pub code-claim : CodeClaim

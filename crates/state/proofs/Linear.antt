@@ -375,7 +375,8 @@ module _ (m : Machine) (lines : length (m .lines) ≡ m .sizes .words / 8) where
       let us = walkable-waits Dirty (m .sizes .words) (m .lines) (m .buffers .undoRedo) (u .0) in
       let ds = walkable-waits Clean (m .sizes .words) (m .lines) (m .buffers .redo) d in
       both
-      (both (n .sizes) (both (n .bounds) (both (l .0) (both (n .entries) (both (entries (m .buffers .undoRedo) (u .0 .ok)) (entries (m .buffers .redo) (d .ok)))))))
+      (both (n .sizes) (both (n .bounds) (both (l .0) (both (n .entries)
+      (both (entries (m .buffers .undoRedo) (u .0 .ok)) (entries (m .buffers .redo) (d .ok)))))))
       (both (n .order)
       (both
       (both
@@ -448,7 +449,8 @@ module _ (m : Machine) (lines : length (m .lines) ≡ m .sizes .words / 8) where
         (both (le-leb (m .span .head) (m .span .tail) (c .order)) (le-leb (m .span .tail) (m .span .head + m .sizes .slots) (c .span))))))
         (both (lines-clauses m ∙ both (c .lines) (both (c .opened) (c .free)))
         (both
-        (each-undos (m .sizes .words) (m .lines) (m .buffers .undoRedo) w (waits-walkable Dirty (m .sizes .words) (m .lines) (m .buffers .undoRedo) (c .undoOk) undos-wait) dirty-once)
+        (each-undos (m .sizes .words) (m .lines) (m .buffers .undoRedo) w
+        (waits-walkable Dirty (m .sizes .words) (m .lines) (m .buffers .undoRedo) (c .undoOk) undos-wait) dirty-once)
         (walkable-test Clean ULog (m .sizes .words) (omega arith) (λ q. absurd (omega arith)) (m .buffers .redo) (m .lines) (omega arith)
         (waits-walkable Clean (m .sizes .words) (m .lines) (m .buffers .redo) (c .redoOk) redos-wait))))
 

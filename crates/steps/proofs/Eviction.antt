@@ -146,7 +146,8 @@ module _ (s : Machine) (i : ℕ) (below : i < s .words / 8) where
     set-down : (grown : RedoBuffer) (ss : List ℕ) → s .words ≤ 512 → WholeLines (s .lines)
         → redosWaiting grown ≡ drop count (redosWaiting (s .redos)) ++ evicted (view s) mem i → ss ≡ set (s .lines .states) i 0
         → view (setDown s count grown ss)
-        ≡ withLines (changed (statesAs 0) i (view s .lines)) (withRedo (drop count (view s .buffers .redo) ++ evicted (view s) mem i) (redosLogged count (view s)))
+        ≡ withLines (changed (statesAs 0) i (view s .lines)) (withRedo (drop count (view s .buffers .redo) ++ evicted (view s) mem i)
+        (redosLogged count (view s)))
     set-down grown ss narrow whole more clean =
         let lines : List Line = changed (statesAs 0) i (view s .lines) in
         let redos : List Entry = drop count (view s .buffers .redo) ++ evicted (view s) mem i in

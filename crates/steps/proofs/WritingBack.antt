@@ -62,16 +62,19 @@ module _ (i c : ℕ) (s : Machine) (mem : Memory) (zero : numberOf (common (view
     left-by after = rw (stores, there, made, written-home mem c writes after)
 
     -- done: the supply was enough, and the line's flag was cleared
-    pub write-done : {taken : Machine} → (flags : List Bool) → 8 ≤ c → r .answer ≡ 0 → r .left ≡ c - length (lineStores (mem .working) i) → r .state ≡ flagsReplaced s flags
+    pub write-done : {taken : Machine} → (flags : List Bool) → 8 ≤ c → r .answer ≡ 0 → r .left ≡ c - length (lineStores (mem .working) i)
+        → r .state ≡ flagsReplaced s flags
         → WholeLines (s .lines) → flags ≡ set (s .lines .dirty) i false → Comes (writeBack i) c (view s) mem taken r home (mem .working) (mem .log)
     write-done {taken} flags h answer left state whole cleared =
         let narrow = write-fit .narrow in
-        done-way way c r home (mem .log) (rw (made, length-map, eight) h) answer (left ∙ ap (λ (ss : List Store). c - length ss) there ∙ (rw (made, length-map writes inHome)))
+        done-way way c r home (mem .log) (rw (made, length-map, eight) h) answer
+        (left ∙ ap (λ (ss : List Store). c - length ss) there ∙ (rw (made, length-map writes inHome)))
         (ap view state
         ∙ ap (λ (ls : List Line). withLines ls (view s))
         (first-changed (dirtyAs false) (s .words / 8) (s .lines) (flagsReplaced s flags .lines) i (rw cleared (simp set-getD)) whole (omega arith)))
         (left-by (mem .working))
 
     -- cut: it was not
-    pub write-cut : {taken : Machine} → (after : List ℕ) → c < 8 → IsCut r → after ≡ cleared mem → Comes (writeBack i) c (view s) mem taken r home after (mem .log)
+    pub write-cut : {taken : Machine} → (after : List ℕ) → c < 8 → IsCut r → after ≡ cleared mem
+        → Comes (writeBack i) c (view s) mem taken r home after (mem .log)
     write-cut {taken} after h answer clear = cut-way way c r home (mem .log) after (rw (made, length-map, eight) h) answer clear (left-by (cleared mem))

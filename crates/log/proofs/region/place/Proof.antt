@@ -8,4 +8,5 @@ use Rattle.log.proofs.region.place.Tie as tie
 pub place-spec : {M : Type 1} → statement M
 place-spec =
     tie.close
-    (tie.spec (λ c. search needs) (λ c. omega (arith, mod-lt (c .args .number) (c .pre .0))) (λ c. omega (arith, mod-lt (c .args .number) (c .pre .0))) (λ c. search needs))
+    (tie.spec (λ c. search needs) (λ c. omega (arith, mod-lt (c .args .number) (c .pre .0))) (λ c. omega (arith, mod-lt (c .args .number) (c .pre .0)))
+    (λ c. search needs))

@@ -54,7 +54,8 @@ passed-known c =
     let s = start (c .before) in
     let b = s .args .t1 .redos in
     let none = sym (number (c .before)) ∙ c .if1 .left in
-    known logRedo redoRecord 32 (b .len) (redoAt b) (view (s .args .t1)) (lent s) (redosLogged 1 (view (s .args .t1))) (λ d. omega (arith, d .redoSize)) (s .pre) none
+    known logRedo redoRecord 32 (b .len) (redoAt b) (view (s .args .t1)) (lent s) (redosLogged 1 (view (s .args .t1))) (λ d. omega (arith, d .redoSize))
+    (s .pre) none
     (record { first = s .pre; own = none; work = refl })
 
 refusal-requires : tie.Need-refusal-requires

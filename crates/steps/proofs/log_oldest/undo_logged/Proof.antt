@@ -58,7 +58,8 @@ passed-known c =
     let s = start (c .before) in
     let b = s .args .t1 .undos in
     let none = sym (number (c .before)) ∙ c .if1 .left in
-    known logUndo undoRedoRecord 16 (b .len) (undoAt b) (view (s .args .t1)) (lent s) (undosLogged 1 (view (s .args .t1))) (λ d. omega (arith, d .undoSize)) (s .pre) none
+    known logUndo undoRedoRecord 16 (b .len) (undoAt b) (view (s .args .t1)) (lent s) (undosLogged 1 (view (s .args .t1))) (λ d. omega (arith, d .undoSize))
+    (s .pre) none
     (record { first = s .pre; own = none; work = refl })
 
 refusal-requires : tie.Need-refusal-requires

@@ -48,7 +48,11 @@ dispatch-spec =
     (λ c. search needs)
     (λ c κs. passed (c .before .before .before) _ (c .before .step .given .1))
     (λ c. search needs)
-    (λ c κs. let d = c .before .before .before .before in (d .before .before .before .before .before .pre .0, passed (d .before .before) _ (d .step2 .given .1)))
+    (λ c κs. let d = c .before .before .before .before in (
+      d .before .before .before .before .before .pre .0,
+      passed (d .before .before) _
+          (d .step2 .given .1),
+    ))
     (λ c. search needs)
     (λ c κs. passed (c .before .before .before .before .before) _ (c .before .before .before .enum-told .given .1))
     (λ c. search needs)
@@ -58,7 +62,11 @@ dispatch-spec =
     (λ c. search needs)
     (λ c κs. passed (c .before .before .before .before .before .before) _ (c .before .before .before .before .step4 .given .1))
     (λ c. search needs)
-    (λ c κs. let d = c .before .before .before .before in (d .before .before .before .before .before .pre .0, passed (d .before .before) _ (d .step5 .given .1)))
+    (λ c κs. let d = c .before .before .before .before in (
+      d .before .before .before .before .before .pre .0,
+      passed (d .before .before) _
+          (d .step5 .given .1),
+    ))
     (λ c. search needs)
     (λ c κs. passed (c .before .before .before .before .before) _ (c .before .before .before .enum-told3 .given .1))
     (λ c. search needs)

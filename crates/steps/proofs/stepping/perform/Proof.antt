@@ -53,7 +53,8 @@ perform-spec =
     (λ c. search needs)
     (λ c. search needs)
     returns
-    (λ c κs. let passed = c .before .before .before .before .before in (record { isHolders = refl; isStates = refl }, sym (number (passed .before)) ∙ passed .if2 .left))
+    (λ c κs. let passed = c .before .before .before .before .before in
+    (record { isHolders = refl; isStates = refl }, sym (number (passed .before)) ∙ passed .if2 .left))
     (λ c. search needs)
     (λ c. search needs)
     (λ c. search needs)

@@ -43,7 +43,8 @@ returns c =
     let s = begin d in
     let a = s .args in
     refused-way (store (a .target .thread) (a .target .word) (a .target .value)) (a .supply) (a .state) (lent s) (s .pre .1) (d .place-refusal .result)
-    (place-refused (a .state) (lent s) (a .target .thread) (a .target .word) (a .target .value) (s .pre .1) (d .place-refusal .result) (place-here d) (c .before .if1 .taken))
+    (place-refused (a .state) (lent s) (a .target .thread) (a .target .word) (a .target .value) (s .pre .1) (d .place-refusal .result) (place-here d)
+    (c .before .if1 .taken))
     (c .before .if1 .taken) refl
     (c .refused .result) (c .refused .ensures)
 
@@ -182,7 +183,8 @@ module _ (c : tie.Joined3) where
 
   counted : length (storeRecords (view (entry .args .state)) (lent entry) (entry .args .target .word) (entry .args .target .value)) ≡ count .logs-first .result
   counted =
-      store-size (entry .args .state) (lent entry) (entry .args .target .thread) (entry .args .target .word) (entry .args .target .value) (count .logs-first .result)
+      store-size (entry .args .state) (lent entry) (entry .args .target .thread) (entry .args .target .word) (entry .args .target .value)
+      (count .logs-first .result)
       (count-here count)
 
   logged : Appended (entry .args .supply) (lent entry .log) (entry .args .state .tail)

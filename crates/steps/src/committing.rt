@@ -8,7 +8,7 @@ ghost use lib.ListN.{length, getD};
 ghost use Rattle.log.specs.Region.{numbers};
 ghost use Rattle.model.specs.Machine.{Machine as Model, Memory};
 ghost use Rattle.model.specs.Refusals.{numberOf, common as commonRows};
-ghost use Rattle.model.specs.Steps.{commitRecords, commitRows, commitNext};
+ghost use Rattle.model.specs.Steps.{commitRecords, commitRows};
 ghost use Rattle.model.specs.Step.{commit, stepped};
 ghost use Rattle.state.specs.View.{view, memory, shown};
 ghost use Rattle.state.specs.HandedBack.{HandedBack};
@@ -66,30 +66,9 @@ fn commit_refusal(opened: bool, slots: u16, head: u64, tail: u64, thread: u64, c
     )
 }
 
-// The state after a commit that logs `count` records: the words of the entries are logged, the thread's lines released.
-fn after_commit(mut state: Machine, thread: u64, count: u64) -> Machine
-    requires { ⌜ (thread < 8) × ((state .words ≤ 512) × ((state .undos .len ≤ 16)
-        × (state .tail + count ≤ numbers))) ⌝ }
-    ensures { λ (r : Machine). ⌜ ((mem : Memory) → count ≡ length (commitRecords (view state) mem thread)
-        → view r ≡ commitNext (view state) mem thread) ⌝ }
-{
-    let undos = state.undos.len;
-    let keys = state.undos.keys;
-    mark_logged(&mut state.lines.states, &keys, undos);
-    let holders = state.lines.holders;
-    let lines = (state.words / 8) as usize;
-    release_states(&mut state.lines.states, &holders, lines, thread as u8);
-    release_holders(&mut state.lines.holders, lines, thread as u8);
-    state.undos.len = 0;
-    state.redos.len = 0;
-    state.opened[thread as usize] = false;
-    state.tail = state.tail + count;
-    state
-}
-
 // A commit that no row refuses and that logs `count` records: done or cut.
 fn carry_out(
-    state: Machine,
+    mut state: Machine,
     working: &mut [u64],
     log: &mut [u64],
     supply: u64,
@@ -142,10 +121,20 @@ fn carry_out(
     if supply < 3 * count {
         return cut(working);
     }
+    let keys = state.undos.keys;
+    mark_logged(&mut state.lines.states, &keys, undos);
+    let holders = state.lines.holders;
+    let lines = (state.words / 8) as usize;
+    release_states(&mut state.lines.states, &holders, lines, thread as u8);
+    release_holders(&mut state.lines.holders, lines, thread as u8);
+    state.undos.len = 0;
+    state.redos.len = 0;
+    state.opened[thread as usize] = false;
+    state.tail = state.tail + count;
     Outcome {
         answer: DONE,
         left: left,
-        state: after_commit(state, thread, count),
+        state: state,
     }
 }
 

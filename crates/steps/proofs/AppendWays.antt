@@ -25,6 +25,11 @@ pub appended-of : {c n rest : ℕ} {before log : List ℕ} (f : ℕ → List Rec
     → Appended c before n (f l) log rest
 appended-of {c} {n} {rest} {before} {log} f k l e = subst (λ (j : ℕ). Appended c before n (f j) log rest) e
 
+-- the same log and the same rest
+pub appended-as : {c n : ℕ} {before : List ℕ} {rs : List Record} (after log : List ℕ) (rest left : ℕ) → after ≡ log → rest ≡ left
+    → Appended c before n rs log left → Appended c before n rs after rest
+appended-as after log rest left same kept a = rw (same, kept) a
+
 -- such a step, the state being fit and its log having room
 pub record AppendWay (s : Step) (m : Model) (mem : Memory) (records : List Record) (next : Model) (working : List ℕ) : Type 0 where
   pub way : Way s m mem (map append records) next working

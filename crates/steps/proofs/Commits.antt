@@ -9,7 +9,7 @@ use borrow.Author.Tests.{lt-ltb, ltb-false, eq-eqb, eqb-true}
 use lib.Dec.{eqb, ltb}
 use lib.ListN.{length, getD, set, length-append, length-map}
 use Rattle.log.specs.declared.Record.{Record}
-use Rattle.log.specs.declared.Record.the-variants.{Commit}
+use Rattle.log.specs.declared.Record.the-variants.{Redo, Commit}
 use Rattle.log.specs.Stores.{storedUnder}
 use Rattle.log.specs.Region.{numbers, slotsOf, recordStores}
 use Rattle.log.specs.Holding.{Every}
@@ -156,6 +156,11 @@ sizes s mem sound =
       tail = all .tail;
     }
 
+-- a list of no elements
+none-left : (xs : List ℕ) → length xs ≡ 0 → xs ≡ []
+none-left [] e = refl
+none-left (x ∷ xs) e = absurd (omega arith)
+
 -- A commit that is not refused.
 module _ (s : Machine) (t : ℕ) (home working log : List ℕ) (count : ℕ) (allowed : Allowed t count (view s) (memory home working log)) where
   abbrev mem : Memory
@@ -178,6 +183,22 @@ module _ (s : Machine) (t : ℕ) (home working log : List ℕ) (count : ℕ) (al
         fits = common-fit (view s) mem (allowed .common);
         room = room (view s) mem (length records) (none .1 .1);
       }
+
+  -- where the commit record comes right after the buffers' records, there is no newest value to log
+  pub newest-none : s .tail + count - 1 ≤ s .tail + s .undos .len + s .redos .len → newestRecords (s .lines) working t ≡ []
+  newest-none h =
+      let size = sizes s mem (allowed .common) in
+      let width : length working ≡ s .words = commit-appends .fits .working in
+      let counted : length (newestWords (view s .lines) t (s .words)) ≡ 0 =
+      omega (
+        arith,
+        allowed .records,
+        commit-size (view s) mem t,
+        length-listed (s .undos .len) (undoAt (s .undos)),
+        length-listed (s .redos .len) (redoAt (s .redos)),
+      ) in
+      (rw width at (newest-of (s .lines) working t (omega (arith, size .words)) (rw width (size .round))))
+      ∙ ap (map (λ w. Redo t w (getD working w 0))) (none-left (newestWords (view s .lines) t (s .words)) counted)
 
   -- the code appends them in four parts
   pub commit-appended : {c k₁ k₂ k₃ k₄ : ℕ} {log₁ log₂ log₃ log₄ : List ℕ}

@@ -104,16 +104,20 @@ fn carry_out(
         after_undos,
     );
     let newest_from = redos_from + redos as u64;
-    let after_newest = append_newest(
-        log,
-        newest_from,
-        working,
-        &state.lines.holders,
-        &state.lines.states,
-        thread as u8,
-        after_redos,
-    );
     let commit_at = state.tail + count - 1;
+    let mut after_newest = after_redos;
+    // The lines are walked only if there is a newest value to log.
+    if newest_from < commit_at {
+        after_newest = append_newest(
+            log,
+            newest_from,
+            working,
+            &state.lines.holders,
+            &state.lines.states,
+            thread as u8,
+            after_redos,
+        );
+    }
     let record = Record::Commit {
         thread: thread as u8,
     };

@@ -2,6 +2,7 @@
 use Prim.Native.Nat.{ℕ, _/_, min}
 use mathlib.Core.Path.{_≡_, refl, sym, _∙_, ap}
 use mathlib.Core.List.{List, [], map}
+use mathlib.Core.Logic.{⊎-elim}
 use native.Mathlib.Omega.{arith}
 use borrow.Author.Needs.{needs}
 use lib.ListN.{length, take}
@@ -19,20 +20,20 @@ use Rattle.lines.proofs.ReleasedLines.{released-all}
 use Rattle.lines.proofs.WordStates.{withStates}
 use Rattle.buffers.proofs.LoggedLines.{whole-logged, logged-lines}
 use Rattle.log.specs.Appended.{Appended}
-use Rattle.log.proofs.Appended.{appended-one, appended-length}
+use Rattle.log.proofs.Appended.{appended-none, appended-one, appended-length}
 use Rattle.state.specs.View.{view, memory}
 use Rattle.steps.specs.Committing.{Allowed}
-use Rattle.steps.proofs.AppendWays.{append-done, append-cut}
-use Rattle.steps.proofs.Commits.{freed, commit-next, commit-appends, commit-appended}
+use Rattle.steps.proofs.AppendWays.{appended-as, append-done, append-cut}
+use Rattle.steps.proofs.Commits.{freed, commit-next, commit-appends, newest-none, commit-appended}
 use Rattle.steps.proofs.committing.carry_out.Statement.{statement}
 use Rattle.steps.proofs.committing.carry_out.Tie as tie
 
 -- where the records of the lines, of the redo buffer and of the undo+redo buffer were appended, and the beginning
-abbrev newest : tie.After-append → tie.After-append-newest
-newest c = c .before .before .before .before
+abbrev newest : tie.After-append → tie.Joined1
+newest c = c .before .before
 
-abbrev redos : tie.After-append-newest → tie.After-append-redos
-redos c = c .before .before .before .before .before .before .before .before
+abbrev redos : tie.Joined1 → tie.After-append-redos
+redos c = c .before .before .before
 
 abbrev undos : tie.After-append-redos → tie.After-append-undos
 undos c = c .before .before .before .before .before .before .before
@@ -47,7 +48,7 @@ start c = begin (undos (redos (newest c)))
 same-log : (c : tie.After-append) → length (c .append .last .0) ≡ length (start c .args .log .now)
 same-log c =
     appended-length (appended-one _ (c .append .ensures .0) (c .append .ensures .1))
-    ∙ appended-length (newest c .append-newest .ensures [])
+    ∙ ⊎-elim (λ w. ap length (w .9) ∙ appended-length (w .6 .ensures [])) (λ w. ap length (w .1)) (newest c .if1 .came)
     ∙ appended-length (redos (newest c) .append-redos .ensures)
     ∙ appended-length (undos (redos (newest c)) .append-undos .ensures)
 
@@ -59,7 +60,13 @@ appended : (c : tie.After-append) (home : List ℕ) → let a = start c .args in
 appended c home allowed =
     let a = start c .args in
     commit-appended (a .t1) (a .thread) home (a .working .now) (a .log .now) (a .count) allowed (undos (redos (newest c)) .append-undos .ensures)
-    (redos (newest c) .append-redos .ensures) (newest c .append-newest .ensures (a .t1 .lines .dirty)) (c .append .ensures)
+    (redos (newest c) .append-redos .ensures)
+    (⊎-elim (λ w. appended-as _ _ _ _ (w .9) (w .10) (w .6 .ensures (a .t1 .lines .dirty)))
+    (λ w.
+    appended-as _ _ _ _ (w .1) (w .2)
+    (rw (newest-none (a .t1) (a .thread) home (a .working .now) (a .log .now) (a .count) allowed (w .0 .left)) (appended-none _ _ _)))
+    (newest c .if1 .came))
+    (c .append .ensures)
 
 returns : tie.Need-returns
 returns c home allowed =
@@ -67,7 +74,7 @@ returns c home allowed =
     let a = start logged .args in
     let cleared = c .before .before .cut in
     append-cut (commit-appends (a .t1) (a .thread) home (a .working .now) (a .log .now) (a .count) allowed) (a .supply) (a .count) (cleared .result)
-    (cleared .last .0) (logged .append .last .0) (logged .append .result) (sym (allowed .records)) (c .before .before .before .before .if1 .taken)
+    (cleared .last .0) (logged .append .last .0) (logged .append .result) (sym (allowed .records)) (c .before .before .before .before .if2 .taken)
     (appended logged home allowed) (cleared .ensures .0) (cleared .ensures .1)
 
 -- the arrays of the state have their places
@@ -101,7 +108,7 @@ returns-2 c home allowed =
     let free : Lines = record { holders = holders .last .0; dirty = s .lines .dirty; states = states .last .0 } in
     append-done (commit-appends s (a .thread) home (a .working .now) (a .log .now) (a .count) allowed) (a .supply) (a .count)
     (record { answer = 0; left = logged .append .result; state = freed s free (a .thread) (a .count) }) (logged .append .last .0) (sym (allowed .records))
-    (enough .if1 .left) (appended logged home allowed) refl
+    (enough .if2 .left) (appended logged home allowed) refl
     (commit-next s free (memory home (a .working .now) (a .log .now)) (a .thread) (a .count) (allowed .records)
     (released-all (a .thread) n marked (holders .last .0) (states .last .0) wide (omega arith) (rw few at (holders .ensures))
     (rw few at (states .ensures))
@@ -112,14 +119,14 @@ carry-out-spec =
     tie.close
     (tie.spec
     (λ c κs. search needs)
-    (λ c. omega (arith, begin (c .before .before) .pre))
+    (λ c. search needs)
     (λ c κs. search needs)
+    (λ c. search needs)
     (λ c. omega (arith, begin (undos (c .before .before)) .pre))
-    (λ c. omega (arith, begin (undos (c .before .before .before .before .before .before .before)) .pre))
+    (λ c. omega (arith, begin (undos (c .before .before)) .pre))
+    (λ c. search needs)
     (λ c κs. search needs)
-    (λ c. omega (arith, begin (undos (redos (c .before .before))) .pre))
-    (λ c. omega (arith, begin (undos (redos (c .before .before))) .pre))
-    (λ c. omega (arith, begin (undos (redos (c .before .before))) .pre))
+    (λ c. search needs)
     (λ c κs. search needs)
     (λ c. omega (arith, start (c .before .before) .pre))
     (λ c κs. search needs)
@@ -134,6 +141,5 @@ carry-out-spec =
     (λ c κs. search needs)
     (λ c. omega (arith, start (c .before .before .before .before .before .before .before .before .before .before .before .before .before .before .before) .pre))
     (λ c. omega (arith, start (c .before .before .before .before .before .before .before .before .before .before .before .before .before .before .before) .pre))
-    (λ c. search needs)
     (λ c. same-log (c .before .before .before .before .before .before .before .before .before .before .before .before .before .before .before))
     returns-2)

@@ -19,7 +19,7 @@ use Rattle.buffers.proofs.Guards.{undos-appended}
 use Rattle.state.specs.View.{view, memory}
 use Rattle.steps.proofs.Outcome.{refused-way}
 use Rattle.steps.proofs.StoreParts.{logs-most, undos-length, redos-length}
-use Rattle.steps.proofs.AppendWays.{appended-of, append-done, append-cut}
+use Rattle.steps.proofs.AppendWays.{appended-as, appended-of, append-done, append-cut}
 use Rattle.steps.proofs.StoreRows.{placeRows, place-refused, Known, known, late-number, StoreAppends, store-appends, store-size}
 use Rattle.steps.proofs.storing.stored.Statement.{statement}
 use Rattle.steps.proofs.storing.stored.Tie as tie
@@ -152,11 +152,6 @@ returns-2 c =
     refused-way (store (a .target .thread) (a .target .word) (a .target .value)) (a .supply) (a .state) (lent (begun late)) (begun late .pre .1)
     (late .store-refusal .result) (late-here late) (c .before .if2 .taken) refl
     (c .refused2 .result) (c .refused2 .ensures)
-
--- the same log and the same rest
-appended-as : {c n : ℕ} {before : List ℕ} {rs : List Record} (after log : List ℕ) (rest left : ℕ) → after ≡ log → rest ≡ left
-    → Appended c before n rs log left → Appended c before n rs after rest
-appended-as after log rest left same kept a = rw (same, kept) a
 
 -- where no entry comes first, none is logged
 logged-none : (k : ℕ) (m : Machine) (c : ℕ) (log : List ℕ) (n : ℕ) → k ≡ 0 → Appended c log n (undoRecords k m) log c

@@ -8,7 +8,6 @@ use borrow.Author.Needs.{needs}
 use native.Mathlib.Omega.{arith}
 use lib.Dec.{eqb}
 use lib.ListN.{length, getD}
-use Rattle.log.specs.declared.Record.{Record}
 use Rattle.model.specs.Machine.{Machine, Memory}
 use Rattle.model.specs.Refusals.{numberOf}
 use Rattle.model.specs.Steps.{storeLogs, storeRecords, storeRows, undoRecords}

@@ -10,7 +10,7 @@ use Rattle.lines.specs.declared.Lines.{Lines}
 use Rattle.lines.specs.Lines.{firstLines}
 use Rattle.parts.specs.States.{stateAt, ULog}
 use Rattle.model.specs.Lists.{keep, upTo}
--- those among the first n words
+-- the words of t's lines that are ULog, among the first n
 unfoldable pub use Rattle.model.specs.Steps.{newestWords}
 
 -- the lines, by their fields

@@ -1,5 +1,5 @@
 -- Document 01, "Benches to try": P1 to P11 as a table, each with all that the paper says of it; then "Plausible, and
--- wrong", and edges of the supply, the free slots and a delete.
+-- wrong", and edges of the supply, a delete and another thread's commit.
 use Prim.Native.Nat.{ℕ, _+_, _-_, _*_, _^_}
 use mathlib.Core.Path.{_≡_}
 use mathlib.Core.Bool.{Bool, true, false, _&&_}

@@ -68,11 +68,12 @@ abbrev pub threadRead : Reading → ℕ
 threadRead (Good r) = threadOf r
 threadRead Bad = 0
 
--- what a record that was read has to do with home, closed or not: "Closed ones store their redo", "open undo+redo ones
--- store their undo"
+-- nothing is stored
 abbrev pub noEffect : Effect
 noEffect = record { at = 0; redone = false; redo = 0; undone = false; undo = 0 }
 
+-- what a record that was read has to do with home, closed or not: "Closed ones store their redo", "open undo+redo ones
+-- store their undo"
 abbrev pub effectOf : Bool → Reading → Effect
 effectOf b (Good (UndoRedo t w u r)) = record { at = w; redone = b; redo = r; undone = not b; undo = u }
 effectOf b (Good (Redo t w r)) = record { at = w; redone = b; redo = r; undone = false; undo = 0 }

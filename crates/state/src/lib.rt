@@ -20,7 +20,7 @@ pub use ways_out::lost;
 pub use ways_out::refused;
 
 // A state by its fields. `lost` is document 01's "dark". `lines` and the buffers may have places that are not in use.
-// Between two large arrays stands a number, so that the compiler copies each by itself (docs/DECISIONS.md).
+// Numbers stand between its large parts, for the copies that the compiler makes (docs/DECISIONS.md).
 pub struct Machine {
     pub lost: bool,
     pub words: u16,

@@ -42,8 +42,8 @@ pub(crate) fn refuse(applies: bool, number: u64, rest: u64) -> u64
     if applies { number } else { rest }
 }
 
-// The number under which every step that is lent the buffers refuses a state, or 0; `sound` says whether the state is
-// consistent.
+// The number under which every step that takes a state and is lent the buffers refuses them, or 0; `sound` says whether
+// the state is consistent.
 pub(crate) fn common(
     lost: bool,
     words: u16,

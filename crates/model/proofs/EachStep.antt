@@ -1,7 +1,7 @@
 -- A step keeps a world ready for recovery: it is refused and changes nothing, or its work is well made.
 use Prim.Native.Nat.{ℕ, zero, suc, _+_, _-_, _/_, _*_, _≤_, _<_}
 use mathlib.Core.Path.{_≡_, refl, sym, _∙_, ap, subst}
-use mathlib.Core.Bool.{Bool, true, false, true≢false, false≢true}
+use mathlib.Core.Bool.{Bool, true, false, cond, true≢false, false≢true}
 use mathlib.Core.List.{List, [], _∷_, _++_, map, append-nil}
 use native.Mathlib.Omega.{arith}
 use native.Mathlib.Nat.{add-zero}
@@ -46,7 +46,7 @@ use Rattle.model.proofs.Plans.{Does, Well, refuses, performs, well-read
 -- the book after a step that was done, and after one that was not
 pub noted-not : (s : Step) (b : Book) (n : ℕ) → 0 < n → noted s n b ≡ b
 unfolding noted
-noted-not s b n h = rw (ne-eqb n 0 (λ e. omega arith))
+noted-not s b n h = ap (λ (done : Bool). cond done (entered s b) b) (ne-eqb n 0 (λ e. omega arith))
 
 -- a world whose machine is not lost is live
 pub ready-live : {l : ℕ} {m : Machine} {mem : Memory} {b : Book} → Ready l m mem b → m .lost ≡ false → Live l m mem b

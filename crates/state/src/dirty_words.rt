@@ -6,12 +6,15 @@ ghost use Rattle.model.specs.Lists.{all};
 ghost use Rattle.state.specs.StateOf.{linesLent};
 ghost use Rattle.state.specs.Linear.{noneDirty, lineWithoutDirty};
 
+// The low bit of each of a line's eight states.
+const LOW_BITS: u16 = 0x5555;
+
 // No word of a line is Dirty: where the low bit of a state is set, so is the high one.
 fn line_without_dirty(states: u16) -> bool
     ensures { λ r. ⌜ r ≡ noneDirty 8 states ⌝ }
 {
-    let low = states & 0x5555;
-    let high = (states >> 1) & 0x5555;
+    let low = states & LOW_BITS;
+    let high = (states >> 1) & LOW_BITS;
     low & high == low
 }
 

@@ -58,20 +58,7 @@ returns c whole =
 pub put-values-spec : {M : Type 1} → statement M
 put-values-spec =
     tie.close
-    (tie.spec
-    Inv-loop
-    μ-loop
-    (λ c κs. search needs)
-    loop-holds
-    (λ c κs. search needs)
-    (λ c. omega arith)
-    (λ c. omega arith)
-    (λ c. omega arith)
-    (λ c. omega arith)
-    (λ c. let h = place (c .before) in omega arith)
-    (λ c. place (c .before))
-    (λ c. let h = place (c .before) in omega arith)
-    (λ c. omega arith)
-    (λ c. omega arith)
-    loop-again
-    returns)
+    (tie.spec Inv-loop μ-loop (λ c κs. search needs) loop-holds (λ c κs. search needs) (λ c. omega arith)
+    (λ c. omega arith) (λ c. omega arith) (λ c. omega arith) (λ c. let h = place (c .before) in omega arith)
+    (λ c. place (c .before)) (λ c. let h = place (c .before) in omega arith) (λ c. omega arith) (λ c. omega arith)
+    loop-again returns)

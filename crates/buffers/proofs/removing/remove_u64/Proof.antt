@@ -20,19 +20,7 @@ returns c =
 pub remove-u64-spec : {M : Type 1} → statement M
 remove-u64-spec =
     tie.close
-    (tie.spec
-    Inv-loop
-    μ-loop
-    (λ c κs. search needs)
-    (λ c κs. search needs)
-    (λ c. moving-start _ _ _ _)
-    (λ c. omega arith)
-    (λ c. omega arith)
-    (λ c. omega arith)
-    (λ c. omega arith)
-    (λ c. omega arith)
-    (λ c. omega arith)
-    (λ c. omega arith)
-    (λ c. moving-more _ _ (c .before .before .loop .inv) (omega arith))
-    (λ c. c .before .loop .inv .size)
-    returns)
+    (tie.spec Inv-loop μ-loop (λ c κs. search needs) (λ c κs. search needs) (λ c. moving-start _ _ _ _)
+    (λ c. omega arith) (λ c. omega arith) (λ c. omega arith) (λ c. omega arith) (λ c. omega arith) (λ c. omega arith)
+    (λ c. omega arith) (λ c. moving-more _ _ (c .before .before .loop .inv) (omega arith))
+    (λ c. c .before .loop .inv .size) returns)

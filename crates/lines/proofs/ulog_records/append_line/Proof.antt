@@ -63,16 +63,6 @@ returns c = let e : c .before .loop .j ≡ 8 = omega arith in rw e at (c .before
 pub append-line-spec : {M : Type 1} → statement M
 append-line-spec =
     tie.close
-    (tie.spec
-    Inv-loop
-    μ-loop
-    loop-holds
-    (λ c κs. search needs)
-    (λ c. omega arith)
-    (λ c. omega arith)
-    (λ c κs. search needs)
-    (λ c. omega arith)
-    (λ c. omega arith)
-    loop-again
-    (λ c. progressed-length (c .before .loop .inv .1 .1))
-    returns)
+    (tie.spec Inv-loop μ-loop loop-holds (λ c κs. search needs) (λ c. omega arith) (λ c. omega arith)
+    (λ c κs. search needs) (λ c. omega arith) (λ c. omega arith) loop-again
+    (λ c. progressed-length (c .before .loop .inv .1 .1)) returns)

@@ -85,16 +85,5 @@ returns c dirty = let e : c .before .loop .i ≡ c .before .before .before .befo
 pub append-lines-spec : {M : Type 1} → statement M
 append-lines-spec =
     tie.close
-    (tie.spec
-    Inv-loop
-    μ-loop
-    loop-holds
-    (λ c. omega arith)
-    (λ c. omega arith)
-    (λ c. omega arith)
-    append-line-requires
-    (λ c. omega arith)
-    (λ c. omega arith)
-    loop-again
-    (λ c. progressed-length (c .before .loop .inv .1 []))
-    returns)
+    (tie.spec Inv-loop μ-loop loop-holds (λ c. omega arith) (λ c. omega arith) (λ c. omega arith) append-line-requires
+    (λ c. omega arith) (λ c. omega arith) loop-again (λ c. progressed-length (c .before .loop .inv .1 [])) returns)

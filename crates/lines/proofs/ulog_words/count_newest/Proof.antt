@@ -63,17 +63,5 @@ returns c dirty =
 pub count-newest-spec : {M : Type 1} → statement M
 count-newest-spec =
     tie.close
-    (tie.spec
-    Inv-loop
-    μ-loop
-    (λ c κs. search needs)
-    loop-holds
-    (λ c. omega arith)
-    (λ c. search needs)
-    (λ c. omega arith)
-    (λ c κs. search needs)
-    add-count
-    (λ c. omega arith)
-    (λ c. omega arith)
-    loop-again
-    returns)
+    (tie.spec Inv-loop μ-loop (λ c κs. search needs) loop-holds (λ c. omega arith) (λ c. search needs)
+    (λ c. omega arith) (λ c κs. search needs) add-count (λ c. omega arith) (λ c. omega arith) loop-again returns)

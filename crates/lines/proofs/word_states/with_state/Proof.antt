@@ -45,14 +45,6 @@ returns-2 c =
 pub with-state-spec : {M : Type 1} → statement M
 with-state-spec =
     tie.close
-    (tie.spec
-    (λ c κs. search needs)
-    (λ c. search needs)
-    (λ c. search needs)
-    sub-others
-    (λ c. search needs)
-    (λ c. search needs)
-    (λ c. omega (arith, sum c, sum-fits c))
-    (λ c. omega (arith, sum c, sum-fits c))
-    returns
+    (tie.spec (λ c κs. search needs) (λ c. search needs) (λ c. search needs) sub-others (λ c. search needs)
+    (λ c. search needs) (λ c. omega (arith, sum c, sum-fits c)) (λ c. omega (arith, sum c, sum-fits c)) returns
     returns-2)

@@ -75,17 +75,9 @@ returns-2 c =
 pub append-spec : {M : Type 1} → statement M
 append-spec =
     tie.close
-    (tie.spec
-    (λ c κs. search needs)
-    (λ c. search needs)
-    returns
-    (λ c κs. let s = size c in omega arith)
+    (tie.spec (λ c κs. search needs) (λ c. search needs) returns (λ c κs. let s = size c in omega arith)
     (λ c κs. let s = size (c .before) in omega arith)
     (λ c. let s = size (c .before .before) in omega (arith, within c))
-    (λ c. let s = size (c .before .before) in omega (arith, within c))
-    (λ c. search needs)
-    (λ c. search needs)
-    (λ c. let s = size (c .before .before) in omega (arith, within c))
-    (λ c κs. search needs)
-    (λ c. search needs)
+    (λ c. let s = size (c .before .before) in omega (arith, within c)) (λ c. search needs) (λ c. search needs)
+    (λ c. let s = size (c .before .before) in omega (arith, within c)) (λ c κs. search needs) (λ c. search needs)
     returns-2)

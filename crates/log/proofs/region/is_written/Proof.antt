@@ -47,12 +47,7 @@ returns-2 c =
 pub is-written-spec : {M : Type 1} → statement M
 is-written-spec =
     tie.close
-    (tie.spec
-    (λ c κs. search needs)
-    returns
-    (λ c κs. let s = size c in omega arith)
+    (tie.spec (λ c κs. search needs) returns (λ c κs. let s = size c in omega arith)
     (λ c. let s = size (c .before) in omega (arith, within c))
-    (λ c. let s = size (c .before) in omega (arith, within c))
-    (λ c. omega (arith, within (c .before)))
-    (λ c κs. let s = size (c .before .before) in omega arith)
-    returns-2)
+    (λ c. let s = size (c .before) in omega (arith, within c)) (λ c. omega (arith, within (c .before)))
+    (λ c κs. let s = size (c .before .before) in omega arith) returns-2)

@@ -42,14 +42,7 @@ returns-2 c =
 pub read-spec : {M : Type 1} → statement M
 read-spec =
     tie.close
-    (tie.spec
-    (λ c κs. search needs)
-    returns
-    (λ c κs. let s = size c in omega arith)
+    (tie.spec (λ c κs. search needs) returns (λ c κs. let s = size c in omega arith)
     (λ c. let s = size (c .before) in omega (arith, within c))
-    (λ c. let s = size (c .before) in omega (arith, within c))
-    (λ c. search needs)
-    (λ c. search needs)
-    (λ c. let s = size (c .before) in omega (arith, within c))
-    (λ c κs. search needs)
-    returns-2)
+    (λ c. let s = size (c .before) in omega (arith, within c)) (λ c. search needs) (λ c. search needs)
+    (λ c. let s = size (c .before) in omega (arith, within c)) (λ c κs. search needs) returns-2)

@@ -45,23 +45,7 @@ loop-again c =
 pub run-list-spec : {M : Type 1} → statement M
 run-list-spec =
     tie.close
-    (tie.spec
-    Inv-loop
-    μ-loop
-    (λ c. search needs)
-    (λ c. search needs)
-    (λ c κs. search needs)
-    (λ c κs. search needs)
-    (λ c. search needs)
-    slice-aggregate-stepped
-    (λ c. search needs)
-    slice-aggregate-stepped-2
-    (λ c. search needs)
-    slice-aggregate-stepped-3
-    (λ c κs. search needs)
-    (λ c κs. search needs)
-    (λ c κs. search needs)
-    loop-less
-    loop-again
-    (λ c κs. search needs)
-    (λ c. search needs))
+    (tie.spec Inv-loop μ-loop (λ c. search needs) (λ c. search needs) (λ c κs. search needs) (λ c κs. search needs)
+    (λ c. search needs) slice-aggregate-stepped (λ c. search needs) slice-aggregate-stepped-2 (λ c. search needs)
+    slice-aggregate-stepped-3 (λ c κs. search needs) (λ c κs. search needs) (λ c κs. search needs) loop-less
+    loop-again (λ c κs. search needs) (λ c. search needs))

@@ -44,20 +44,6 @@ returns-4 c =
 pub effect-at-spec : {M : Type 1} → statement M
 effect-at-spec =
     tie.close
-    (tie.spec
-    (λ c κs. search needs)
-    (λ c. search needs)
-    (λ c. search needs)
-    closed-requires
-    (λ c. search needs)
-    (λ c. search needs)
-    (λ c. search needs)
-    closed-requires-2
-    (λ c. search needs)
-    (λ c κs. search needs)
-    (λ c. search needs)
-    (λ c κs. search needs)
-    returns
-    returns-2
-    returns-3
-    returns-4)
+    (tie.spec (λ c κs. search needs) (λ c. search needs) (λ c. search needs) closed-requires (λ c. search needs)
+    (λ c. search needs) (λ c. search needs) closed-requires-2 (λ c. search needs) (λ c κs. search needs)
+    (λ c. search needs) (λ c κs. search needs) returns returns-2 returns-3 returns-4)

@@ -49,17 +49,6 @@ returns c =
 pub undo-pass-spec : {M : Type 1} → statement M
 undo-pass-spec =
     tie.close
-    (tie.spec
-    Inv-loop
-    μ-loop
-    (λ c. search needs)
-    loop-holds
-    (λ c. omega arith)
-    (λ c. omega arith)
-    (λ c κs. search needs)
-    (λ c κs. search needs)
-    (λ c. omega arith)
-    (λ c. omega arith)
-    loop-again
-    same-length
+    (tie.spec Inv-loop μ-loop (λ c. search needs) loop-holds (λ c. omega arith) (λ c. omega arith)
+    (λ c κs. search needs) (λ c κs. search needs) (λ c. omega arith) (λ c. omega arith) loop-again same-length
     returns)

@@ -38,17 +38,6 @@ returns-4 c = rw (sym (c .before .before .read .ensures) ∙ c .enum-told3 .give
 pub note-spec : {M : Type 1} → statement M
 note-spec =
     tie.close
-    (tie.spec
-    (λ c κs. search needs)
-    (λ c. search needs)
-    (λ c. search needs)
-    (λ c. search needs)
-    (λ c. search needs)
-    (λ c. search needs)
-    (λ c. search needs)
-    element-write-last
-    (λ c. search needs)
-    returns
-    returns-2
-    returns-3
+    (tie.spec (λ c κs. search needs) (λ c. search needs) (λ c. search needs) (λ c. search needs) (λ c. search needs)
+    (λ c. search needs) (λ c. search needs) element-write-last (λ c. search needs) returns returns-2 returns-3
     returns-4)

@@ -47,16 +47,6 @@ returns c =
 pub scan-spec : {M : Type 1} → statement M
 scan-spec =
     tie.close
-    (tie.spec
-    Inv-loop
-    μ-loop
-    (λ c κs. search needs)
-    (λ c κs. search needs)
-    loop-holds
-    (λ c κs. search needs)
-    (λ c κs. search needs)
-    (λ c. omega (arith, number-below _ _ (there (c .before .before))))
-    (λ c. omega (arith, more (c .before .before)))
-    loop-less
-    loop-again
-    returns)
+    (tie.spec Inv-loop μ-loop (λ c κs. search needs) (λ c κs. search needs) loop-holds (λ c κs. search needs)
+    (λ c κs. search needs) (λ c. omega (arith, number-below _ _ (there (c .before .before))))
+    (λ c. omega (arith, more (c .before .before))) loop-less loop-again returns)

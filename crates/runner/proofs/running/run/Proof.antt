@@ -189,29 +189,9 @@ returns-2 c =
 pub run-spec : {M : Type 1} → statement M
 run-spec =
     tie.close
-    (tie.spec
-    Inv-loop
-    μ-loop
-    (λ c κs. search needs)
-    (λ c. search needs)
-    (λ c. search needs)
-    returns
-    loop-holds
-    step-at-requires
-    (λ c. offset (c .before .loop-test .taken) (c .before .before .loop .inv .1))
+    (tie.spec Inv-loop μ-loop (λ c κs. search needs) (λ c. search needs) (λ c. search needs) returns loop-holds
+    step-at-requires (λ c. offset (c .before .loop-test .taken) (c .before .before .loop .inv .1))
     (λ c. below (c .before .before .before .loop .inv .8 .supplies) (c .before .before .loop-test .taken))
-    (λ c κs. tt)
-    mul-answers
-    slice-write-answers
-    sub-stores
-    mul-stores
-    slice-write-stores
-    add-i
-    loop-less
-    loop-again
-    (λ c. c .before .loop .inv .2)
-    (λ c. c .before .loop .inv .3)
-    (λ c. c .before .loop .inv .4)
-    (λ c. c .before .loop .inv .5)
-    (λ c. c .before .loop .inv .6)
-    returns-2)
+    (λ c κs. tt) mul-answers slice-write-answers sub-stores mul-stores slice-write-stores add-i loop-less loop-again
+    (λ c. c .before .loop .inv .2) (λ c. c .before .loop .inv .3) (λ c. c .before .loop .inv .4)
+    (λ c. c .before .loop .inv .5) (λ c. c .before .loop .inv .6) returns-2)

@@ -36,10 +36,5 @@ returns-2 c =
 pub is-consistent-spec : {M : Type 1} → statement M
 is-consistent-spec =
     tie.close
-    (tie.spec
-    (λ c κs. search needs)
-    returns
-    (λ c. search needs)
-    (λ c κs. omega (arith, bounded (c .before)))
-    (λ c κs. bounded (c .before .before .before))
-    returns-2)
+    (tie.spec (λ c κs. search needs) returns (λ c. search needs) (λ c κs. omega (arith, bounded (c .before)))
+    (λ c κs. bounded (c .before .before .before)) returns-2)

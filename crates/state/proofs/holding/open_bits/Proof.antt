@@ -46,15 +46,5 @@ returns c =
 pub open-bits-spec : {M : Type 1} → statement M
 open-bits-spec =
     tie.close
-    (tie.spec
-    Inv-loop
-    μ-loop
-    loop-holds
-    (λ c. omega arith)
-    mul-bits
-    (λ c. omega arith)
-    (λ c κs. search needs)
-    add-bits
-    (λ c. omega arith)
-    loop-again
-    returns)
+    (tie.spec Inv-loop μ-loop loop-holds (λ c. omega arith) mul-bits (λ c. omega arith) (λ c κs. search needs)
+    add-bits (λ c. omega arith) loop-again returns)

@@ -117,23 +117,12 @@ returns-2 c home allowed =
 pub carry-out-spec : {M : Type 1} → statement M
 carry-out-spec =
     tie.close
-    (tie.spec
-    (λ c κs. search needs)
-    (λ c. search needs)
-    (λ c κs. search needs)
-    (λ c. search needs)
+    (tie.spec (λ c κs. search needs) (λ c. search needs) (λ c κs. search needs) (λ c. search needs)
     (λ c. omega (arith, begin (undos (c .before .before)) .pre))
-    (λ c. omega (arith, begin (undos (c .before .before)) .pre))
-    (λ c. search needs)
-    (λ c κs. search needs)
-    (λ c. search needs)
-    (λ c κs. search needs)
-    (λ c. omega (arith, start (c .before .before) .pre))
-    (λ c κs. search needs)
-    (λ c. search needs)
-    (λ c. same-log (c .before .before .before .before .before .before .before))
-    returns
-    (λ c κs. search needs)
+    (λ c. omega (arith, begin (undos (c .before .before)) .pre)) (λ c. search needs) (λ c κs. search needs)
+    (λ c. search needs) (λ c κs. search needs) (λ c. omega (arith, start (c .before .before) .pre))
+    (λ c κs. search needs) (λ c. search needs)
+    (λ c. same-log (c .before .before .before .before .before .before .before)) returns (λ c κs. search needs)
     (λ c. omega (arith, start (c .before .before .before .before .before .before .before .before) .pre))
     (λ c. omega (arith, start (c .before .before .before .before .before .before .before .before .before .before) .pre))
     (λ c κs. search needs)

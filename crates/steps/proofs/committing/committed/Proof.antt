@@ -92,13 +92,5 @@ returns-2 c =
 pub committed-spec : {M : Type 1} → statement M
 committed-spec =
     tie.close
-    (tie.spec
-    count-records-requires
-    (λ c κs. search needs)
-    commit-refusal-requires
-    (λ c κs. search needs)
-    returns
-    carry-out-requires
-    (λ c. search needs)
-    (λ c. search needs)
-    returns-2)
+    (tie.spec count-records-requires (λ c κs. search needs) commit-refusal-requires (λ c κs. search needs) returns
+    carry-out-requires (λ c. search needs) (λ c. search needs) returns-2)

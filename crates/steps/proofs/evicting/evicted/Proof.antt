@@ -194,26 +194,8 @@ returns-3 c =
 pub evicted-spec : {M : Type 1} → statement M
 evicted-spec =
     tie.close
-    (tie.spec
-    (λ c κs. few (c .before .before .before .before .before))
-    no-room-requires
-    (λ c κs. search needs)
-    (λ c κs. search needs)
-    returns
-    (λ c κs. search needs)
-    mul-if2
-    (λ c κs. search needs)
-    (λ c. search needs)
-    (λ c. search needs)
-    returns-2
-    (λ c κs. search needs)
-    (λ c κs. search needs)
-    (λ c κs. search needs)
-    (λ c κs. search needs)
-    sub-state
-    (λ c κs. search needs)
-    add-state
-    (λ c κs. search needs)
-    add-state-2
-    (λ c. search needs)
-    returns-3)
+    (tie.spec (λ c κs. few (c .before .before .before .before .before)) no-room-requires (λ c κs. search needs)
+    (λ c κs. search needs) returns (λ c κs. search needs) mul-if2 (λ c κs. search needs) (λ c. search needs)
+    (λ c. search needs) returns-2 (λ c κs. search needs) (λ c κs. search needs) (λ c κs. search needs)
+    (λ c κs. search needs) sub-state (λ c κs. search needs) add-state (λ c κs. search needs) add-state-2
+    (λ c. search needs) returns-3)

@@ -115,18 +115,6 @@ returns-3 c =
 pub redo-logged-spec : {M : Type 1} → statement M
 redo-logged-spec =
     tie.close
-    (tie.spec
-    refusal-requires
-    (λ c κs. search needs)
-    returns
-    (λ c κs. search needs)
-    (λ c κs. search needs)
-    (λ c. search needs)
-    (λ c. search needs)
-    returns-2
-    (λ c κs. search needs)
-    (λ c κs. search needs)
-    sub-state
-    add-state
-    (λ c. search needs)
-    returns-3)
+    (tie.spec refusal-requires (λ c κs. search needs) returns (λ c κs. search needs) (λ c κs. search needs)
+    (λ c. search needs) (λ c. search needs) returns-2 (λ c κs. search needs) (λ c κs. search needs) sub-state
+    add-state (λ c. search needs) returns-3)

@@ -241,29 +241,9 @@ returns-4 c =
 pub stored-spec : {M : Type 1} → statement M
 stored-spec =
     tie.close
-    (tie.spec
-    (λ c κs. search needs)
-    (λ c κs. search needs)
-    returns
-    cast-t24
-    cast-t25
-    mul-if4
-    slice-read-if4
-    (λ c κs. search needs)
-    held-by-another-requires
-    logs-first-requires
-    store-refusal-requires
-    (λ c κs. search needs)
-    returns-2
-    (λ c κs. search needs)
-    mul-if4-2
-    (λ c κs. search needs)
-    (λ c. search needs)
-    (λ c. appended-length (logged (c .before .before .before .before .before)))
-    returns-3
-    (λ c. search needs)
-    slice-write-working
-    next-state-requires
-    (λ c. search needs)
-    (λ c. appended-length (logged (c .before .before)))
+    (tie.spec (λ c κs. search needs) (λ c κs. search needs) returns cast-t24 cast-t25 mul-if4 slice-read-if4
+    (λ c κs. search needs) held-by-another-requires logs-first-requires store-refusal-requires (λ c κs. search needs)
+    returns-2 (λ c κs. search needs) mul-if4-2 (λ c κs. search needs) (λ c. search needs)
+    (λ c. appended-length (logged (c .before .before .before .before .before))) returns-3 (λ c. search needs)
+    slice-write-working next-state-requires (λ c. search needs) (λ c. appended-length (logged (c .before .before)))
     returns-4)

@@ -289,7 +289,7 @@ every-of P (x ∷ xs) d each = (each 0 (omega arith), every-of P xs d (λ i h. e
 none-dirty-words : (ls : List Line) → all lineWithoutDirty ls ≡ true → (w : ℕ) → w / 8 < length ls → stateIn ls w ≡ Dirty → ⊥
 unfolding stateIn
 none-dirty-words ls t w h d =
-    none-dirty 8 (lineOf ls (w / 8) .states) (every-at (λ line. lineWithoutDirty line ≡ true) ls (all-every lineWithoutDirty ls t) (w / 8) freeLine h) (w % 8)
+    none-dirty (lineOf ls (w / 8) .states) (every-at (λ line. lineWithoutDirty line ≡ true) ls (all-every lineWithoutDirty ls t) (w / 8) freeLine h) (w % 8)
     (omega arith) d
 
 words-none-dirty : (ls : List Line) → ((w : ℕ) → w / 8 < length ls → stateIn ls w ≡ Dirty → ⊥) → all lineWithoutDirty ls ≡ true
@@ -298,7 +298,7 @@ words-none-dirty ls clean =
     all-true (λ line. lineWithoutDirty line ≡ true) lineWithoutDirty ls (λ line e. e)
     (every-of (λ line. lineWithoutDirty line ≡ true) ls freeLine
     (λ i h.
-    none-dirty-test 8 (lineOf ls i .states)
+    none-dirty-test (lineOf ls i .states)
     (λ j b d.
     let line : (8 * i + j) / 8 ≡ i = omega arith in
     let word : (8 * i + j) % 8 ≡ j = omega arith in

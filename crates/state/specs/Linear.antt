@@ -10,8 +10,8 @@ use Rattle.log.specs.Region.{numbers}
 use Rattle.parts.specs.declared.Entry.{Entry}
 use Rattle.parts.specs.declared.Line.{Line}
 use Rattle.parts.specs.FreeLine.{nobody}
-use Rattle.parts.specs.States.{Clean, Dirty, URLog, ULog}
-use Rattle.model.specs.Lists.{all}
+use Rattle.parts.specs.States.{Clean, Dirty, URLog, ULog, stateAt}
+use Rattle.model.specs.Lists.{any, all, upTo}
 use Rattle.model.specs.Machine.{Machine, stateIn, holderIn, marked, wordsMarked}
 use Rattle.model.specs.Consistent.{isWidth}
 use Rattle.state.specs.declared.Counts.{Counts}
@@ -62,14 +62,12 @@ eachWaits wanted next words ls (e ∷ es) =
 abbrev pub allMarked : ℕ → List Line → List Entry → List Line
 allMarked next ls es = wordsMarked next (map (λ e. e .word) es) ls
 
--- none of the n lowest words of a line is Dirty
-unfoldable pub noneDirty : ℕ → ℕ → Bool
-noneDirty zero states = true
-noneDirty (suc n) states = not (eqb (states % 4) Dirty) && noneDirty n (states / 4)
+-- none of a line's eight states is Dirty
+abbrev pub noneDirty : ℕ → Bool
+noneDirty states = not (any (λ j. eqb (stateAt states j) Dirty) (upTo 8))
 
--- no word of a line is Dirty
 abbrev pub lineWithoutDirty : Line → Bool
-lineWithoutDirty line = noneDirty 8 (line .states)
+lineWithoutDirty line = noneDirty (line .states)
 
 -- undo+redo entries wait for Dirty words, and none of these is without an entry
 unfoldable pub undosWait : ℕ → List Line → List Entry → Bool

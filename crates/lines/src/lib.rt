@@ -25,6 +25,7 @@ pub use releasing::release_states;
 pub use ulog_records::append_newest;
 pub use ulog_words::count_newest;
 pub use ulog_words::count_ulog;
+pub use word_states::ALL_CLEAN;
 pub use word_states::CLEAN;
 pub use word_states::DIRTY;
 pub use word_states::U_LOG;
@@ -52,7 +53,7 @@ impl Lines {
         Lines {
             holders: [NOBODY; 64],
             dirty: [false; 64],
-            states: [0; 64],
+            states: [ALL_CLEAN; 64],
         }
     }
 }

@@ -5,6 +5,7 @@ ghost use Prim.Native.Nat.{min};
 ghost use lib.Dec.{eqb};
 ghost use Rattle.parts.specs.FreeLine.{nobody};
 ghost use Rattle.lines.specs.Walks.{replacedTo, freedHolder, freedStates};
+use crate::ALL_CLEAN;
 use crate::NOBODY;
 use crate::numbers::least;
 
@@ -19,7 +20,7 @@ fn free_holder(holder: u8, thread: u8) -> u8
 fn free_states(states: u16, holder: u8, thread: u8) -> u16
     ensures { λ r. ⌜ r ≡ cond (eqb holder thread) 0 states ⌝ }
 {
-    if holder == thread { 0 } else { states }
+    if holder == thread { ALL_CLEAN } else { states }
 }
 
 // The holders of the first n lines, or of all 64, after it.

@@ -17,6 +17,9 @@ pub const UR_LOG: u64 = 2;
 
 pub const U_LOG: u64 = 3;
 
+// The states of a line whose eight words are Clean.
+pub const ALL_CLEAN: u16 = 0;
+
 // The state of word j of a line.
 pub fn state_at(states: u16, j: u64) -> u64
     ensures { λ r. ⌜ r ≡ stateAt states j ⌝ }

@@ -97,15 +97,32 @@ state-fits st j s b l h =
     let fits : (st / 4 ^ j / 4 * 4 + s) * 4 ^ j + st % 4 ^ j < m * 4 * 4 ^ j = digits-lt (digits-lt top h) (mod-lt st (field-pos j)) in
     subst (λ (n : ℕ). n < 65536) (sym (replaced st j s)) (subst (λ (n : ℕ). (st / 4 ^ j / 4 * 4 + s) * 4 ^ j + st % 4 ^ j < n) (sym e) fits)
 
--- a line of zeros: each word is Clean
-pub state-clean : (j : ℕ) → stateAt 0 j ≡ 0
-unfolding stateAt
-state-clean j = ap (λ (n : ℕ). n % 4) (zero-div (4 ^ j))
-
 -- there are four states
 pub state-small : (st j : ℕ) → stateAt st j < 4
 unfolding stateAt
 state-small st j = mod-lt (st / 4 ^ j) (omega arith)
+
+-- the state that was there is put back
+put-back : (st j s : ℕ) → s < 4 → withState (withState st j s) j (stateAt st j) ≡ st
+unfolding withState stateAt
+put-back st j s h =
+    let own : (st - st / 4 ^ j % 4 * 4 ^ j + s * 4 ^ j) / 4 ^ j % 4 ≡ s = state-same st j s h in
+    let low : st / 4 ^ j % 4 * 4 ^ j ≤ st =
+    le-trans (mul-le-mul-right (4 ^ j) (mod-le (st / 4 ^ j) 4)) (div-mul-le-self st (4 ^ j)) in
+    rw own (exchanged st (st / 4 ^ j % 4 * 4 ^ j) (s * 4 ^ j) low)
+  where
+    exchanged : (n d e : ℕ) → d ≤ n → n - d + e - e + d ≡ n
+    exchanged n d e l = omega arith
+
+-- so the states fitted 16 bits before
+pub state-fitted : (st j s : ℕ) → withState st j s < 2 ^ 16 → j < 8 → s < 4 → st < 2 ^ 16
+state-fitted st j s b l h =
+    subst (λ (n : ℕ). n < 2 ^ 16) (put-back st j s h) (state-fits (withState st j s) j (stateAt st j) b l (state-small st j))
+
+-- a line of zeros: each word is Clean
+pub state-clean : (j : ℕ) → stateAt 0 j ≡ 0
+unfolding stateAt
+state-clean j = ap (λ (n : ℕ). n % 4) (zero-div (4 ^ j))
 
 -- ---- by shift and mask
 

@@ -5,7 +5,7 @@ use mathlib.Core.Bool.{Bool, true, false, cond, _&&_, _||_, not, and-true, and-f
 use mathlib.Core.List.{List, [], _∷_}
 use native.Mathlib.Decide.{decLt, ℕ-discrete}
 use native.Mathlib.Omega.{arith}
-use borrow.Author.Tests.{lt-ltb, le-ltb, eq-eqb, ne-eqb, le-leb, ltb-true, leb-true, eqb-true}
+use borrow.Author.Tests.{lt-ltb, le-ltb, eq-eqb, ne-eqb, le-leb, leb-true, eqb-true}
 use lib.Dec.{eqb, ltb, leb}
 use lib.ListN.{length, getD}
 use Rattle.log.specs.Region.{numbers}
@@ -28,7 +28,8 @@ use Rattle.model.proofs.Fit.{Clauses, clauses, all-every}
 use Rattle.buffers.specs.Waiting.{entryOf}
 use Rattle.state.specs.declared.Counts.{Counts}
 use Rattle.state.specs.StateOf.{linesLent, entriesLent, stateOf}
-use Rattle.state.specs.Linear.{inLimits, lineSound, waitsFor, eachWaits, allMarked, lineWithoutDirty, undosWait, redosWait, countsOf, linear}
+use Rattle.state.specs.Linear.{inLimits, lineSound, waitsFor, eachWaits, allMarked, countsOf, linear}
+use Rattle.state.proofs.Marks.{and-under, halves, all-both, Waiting, waiting-test, test-waiting, lineHeld, lineWithoutDirty, after-marks}
 use Rattle.state.proofs.NoneDirty.{none-dirty, none-dirty-test}
 
 -- ---- tests
@@ -38,10 +39,6 @@ same-tests : (a b : Bool) → (a ≡ true → b ≡ true) → (b ≡ true → a 
 same-tests true b f g = sym (f refl)
 same-tests false true f g = g refl
 same-tests false false f g = refl
-
--- the halves of a test that passes
-halves : (a b : Bool) → (a && b) ≡ true → (a ≡ true) × (b ≡ true)
-halves a b e = (both-left a b e, both-right a b e)
 
 -- the parts of the limits
 record Limits (n : Counts) : Type 0 where
@@ -67,26 +64,14 @@ limits n t =
     order : Bool
     order = leb (n .head) (n .tail) && leb (n .tail) (n .head + n .slots)
 
--- two tests of every element are one
-shuffled : (a b c d : Bool) → ((a && b) && (c && d)) ≡ ((a && c) && (b && d))
-shuffled true true c d = refl
-shuffled true false true d = refl
-shuffled true false false d = refl
-shuffled false b c d = refl
-
-all-both : {A : Type 0} (f g : A → Bool) (xs : List A) → all (λ x. f x && g x) xs ≡ (all f xs && all g xs)
-unfolding all
-all-both f g [] = refl
-all-both f g (x ∷ xs) = ap (λ (t : Bool). (f x && g x) && t) (all-both f g xs) ∙ shuffled (f x) (g x) (all f xs) (all g xs)
-
 -- ---- the lines
 
 -- a line's test, clause by clause
 line-clauses : (opened : List Bool) (line : Line)
-    → lineSound opened line
+    → lineHeld opened line
     ≡ (lineLimits line &&
     ((eqb (line .holder) nobody || getD opened (line .holder) false) && (not (eqb (line .holder) nobody) || eqb (line .states) 0)))
-unfolding lineSound lineLimits
+unfolding lineLimits
 line-clauses opened line =
     let h : ℕ = line .holder in
     let small : Bool = ltb (line .states) (2 ^ 16) in
@@ -101,7 +86,7 @@ line-clauses opened line =
           ]
     ]
 
-lines-clauses : (m : Machine) → all (lineSound (m .opened)) (m .lines) ≡ (all lineLimits (m .lines) && (holdersOpen m && freeClean m))
+lines-clauses : (m : Machine) → all (lineHeld (m .opened)) (m .lines) ≡ (all lineLimits (m .lines) && (holdersOpen m && freeClean m))
 unfolding holdersOpen freeClean
 lines-clauses m =
     ap (λ (f : Line → Bool). all f (m .lines)) (λ i line. line-clauses (m .opened) line i)
@@ -140,38 +125,6 @@ record Walkable (wanted words : ℕ) (ls : List Line) (es : List Entry) : Type 0
   ok : Every (EntryOk words) es
   held : Every (λ e. e .thread ≡ holderIn ls (e .word)) es
   once : (w : ℕ) → Once wanted (stateIn ls w) (entriesOf w es)
-
--- what the test of one entry says
-record Waiting (wanted words : ℕ) (ls : List Line) (e : Entry) : Type 0 where
-  ok : EntryOk words e
-  held : e .thread ≡ holderIn ls (e .word)
-  state : stateIn ls (e .word) ≡ wanted
-
-module _ (wanted words : ℕ) (ls : List Line) (e : Entry) where
-  waiting-test : Waiting wanted words ls e → waitsFor wanted words ls e ≡ true
-  unfolding waitsFor
-  waiting-test w =
-      both (lt-ltb (e .word) words (w .ok .word))
-      (both (lt-ltb (e .thread) 8 (w .ok .thread))
-      (both (eq-eqb (e .thread) (holderIn ls (e .word)) (w .held)) (eq-eqb (stateIn ls (e .word)) wanted (w .state))))
-
-  test-waiting : waitsFor wanted words ls e ≡ true → Waiting wanted words ls e
-  unfolding waitsFor
-  test-waiting t =
-      let word = halves (ltb (e .word) words) (ltb (e .thread) 8 && (holds && stands)) t in
-      let thread = halves (ltb (e .thread) 8) (holds && stands) (word .1) in
-      let rest = halves holds stands (thread .1) in
-      record {
-        ok = record { thread = ltb-true (e .thread) 8 (thread .0); word = ltb-true (e .word) words (word .0) };
-        held = eqb-true (e .thread) (holderIn ls (e .word)) (rest .0);
-        state = eqb-true (stateIn ls (e .word)) wanted (rest .1);
-      }
-    where
-      holds : Bool
-      holds = eqb (e .thread) (holderIn ls (e .word))
-
-      stands : Bool
-      stands = eqb (stateIn ls (e .word)) wanted
 
 module _ (wanted next words : ℕ) (small : next < 4) (other : next ≡ wanted → ⊥) where
   module _ (ls : List Line) (e : Entry) (es : List Entry) (wide : words ≤ 8 * length ls) where
@@ -310,6 +263,10 @@ upto-each f n t w h =
     let l : length (upTo n) ≡ n = length-listed n (λ i. i) in
     rw (getD-listed n (λ i. i) w 0 h) at (every-at (λ v. f v ≡ true) (upTo n) (all-every f (upTo n) t) w 0 (omega arith))
 
+-- undo+redo entries wait for Dirty words, and none of these is without an entry
+unfoldable undosWait : ℕ → List Line → List Entry → Bool
+undosWait words ls es = eachWaits Dirty URLog words ls es && all lineWithoutDirty (allMarked URLog ls es)
+
 module _ (words : ℕ) (ls : List Line) (es : List Entry) (wide : words ≡ 8 * length ls) where
   -- a word's state after all entries are marked
   state-marks : Every (EntryOk words) es → (w : ℕ) → stateIn (allMarked URLog ls es) w ≡ cond (isEmpty (entriesOf w es)) (stateIn ls w) URLog
@@ -353,6 +310,13 @@ every-pair : {A : Type 0} (P Q : A → Type 0) (xs : List A) → Every P xs → 
 every-pair P Q [] p q = tt
 every-pair P Q (x ∷ xs) p q = ((p .0, q .0), every-pair P Q xs (p .1) (q .1))
 
+-- the clauses of limits, lines, undo+redo entries and redo entries, each by itself
+unfoldable clausewise : Machine → Bool
+clausewise m =
+    inLimits (countsOf m) &&
+    (all (lineHeld (m .opened)) (m .lines) &&
+    (undosWait (m .sizes .words) (m .lines) (m .buffers .undoRedo) && eachWaits Clean ULog (m .sizes .words) (m .lines) (m .buffers .redo)))
+
 module _ (m : Machine) (lines : length (m .lines) ≡ m .sizes .words / 8) where
   -- W is a multiple of 8
   wide : isWidth (m .sizes .words) ≡ true → m .sizes .words ≡ 8 * length (m .lines)
@@ -361,9 +325,9 @@ module _ (m : Machine) (lines : length (m .lines) ≡ m .sizes .words / 8) where
       let f : m .sizes .words % 8 ≡ 0 = eqb-true (m .sizes .words % 8) 0 (halves (leb (m .sizes .words) 512) (eqb (m .sizes .words % 8) 0) (e .1) .1) in
       omega arith
 
-  linear-passes : linear m ≡ true → consistent m ≡ true
-  unfolding linear redosWait consistent withinLimits dirtyWait redoClean entriesHeld
-  linear-passes t =
+  clausewise-passes : clausewise m ≡ true → consistent m ≡ true
+  unfolding clausewise consistent withinLimits dirtyWait redoClean entriesHeld
+  clausewise-passes t =
       let h = halves (inLimits (countsOf m)) (sound && (undos && redos)) t in
       let n = limits (countsOf m) (h .0) in
       let b = halves sound (undos && redos) (h .1) in
@@ -387,13 +351,13 @@ module _ (m : Machine) (lines : length (m .lines) ≡ m .sizes .words / 8) where
       (both (both (all-held Dirty (m .lines) (m .buffers .undoRedo) us) (all-held Clean (m .lines) (m .buffers .redo) ds)) (l .1)))))
     where
       sound : Bool
-      sound = all (lineSound (m .opened)) (m .lines)
+      sound = all (lineHeld (m .opened)) (m .lines)
 
       undos : Bool
       undos = undosWait (m .sizes .words) (m .lines) (m .buffers .undoRedo)
 
       redos : Bool
-      redos = redosWait (m .sizes .words) (m .lines) (m .buffers .redo)
+      redos = eachWaits Clean ULog (m .sizes .words) (m .lines) (m .buffers .redo)
 
       entries : (es : List Entry) → Every (EntryOk (m .sizes .words)) es → all (entryLimits (m .sizes .words)) es ≡ true
       entries es ok = all-true (EntryOk (m .sizes .words)) (entryLimits (m .sizes .words)) es (entry-limits (m .sizes .words)) ok
@@ -438,8 +402,8 @@ module _ (m : Machine) (lines : length (m .lines) ≡ m .sizes .words / 8) where
         })
         (every-pair _ _ (m .buffers .redo) (held .1) (all-every _ (m .buffers .redo) (c .redo)))
 
-    clauses-pass : linear m ≡ true
-    unfolding linear inLimits redosWait
+    clauses-pass : clausewise m ≡ true
+    unfolding clausewise inLimits
     clauses-pass =
         let w = wide (c .width) in
         both
@@ -456,7 +420,13 @@ module _ (m : Machine) (lines : length (m .lines) ≡ m .sizes .words / 8) where
 
   -- the linear test passes where the definition does
   pub linear-consistent : linear m ≡ consistent m
-  linear-consistent = same-tests (linear m) (consistent m) linear-passes (λ t. clauses-pass (clauses m t))
+  unfolding linear clausewise undosWait
+  linear-consistent =
+      and-under (inLimits (countsOf m)) _ _
+      (λ t.
+      let w = wide (both-left (isWidth (m .sizes .words)) (leb 8 (m .sizes .slots) && leb (m .sizes .slots) 1024) (limits (countsOf m) t .sizes)) in
+      after-marks (m .sizes .words) (m .opened) (m .buffers .undoRedo) (m .buffers .redo) (m .lines) (omega arith))
+      ∙ same-tests (clausewise m) (consistent m) clausewise-passes (λ t. clauses-pass (clauses m t))
 
 -- ---- the test of the state that is lent
 
@@ -486,15 +456,23 @@ module _ (n : Counts) (opened : List Bool) (holders states undo-keys redo-keys :
     redos = length-listed (n .redos) (entryOf redo-keys [] []) i;
   }
 
-  -- the parts of the test make the whole
-  pub parts-consistent : (limits lines undos redos : Bool) → limits ≡ inLimits n → lines ≡ all (lineSound opened) (lent .lines)
-      → undos ≡ undosWait (n .words) (lent .lines) (lent .buffers .undoRedo) → redos ≡ redosWait (n .words) (lent .lines) (lent .buffers .redo)
-      → (limits && (lines && (undos && redos))) ≡ consistent lent
+  abbrev undos : List Entry
+  undos = lent .buffers .undoRedo
+
+  abbrev after : List Line
+  after = allMarked URLog (lent .lines) undos
+
+  -- the parts of the test make the whole: lines and redo entries count only where the undo+redo entries wait
+  pub parts-consistent : (limits wait sound clean : Bool) → limits ≡ inLimits n → wait ≡ eachWaits Dirty URLog (n .words) (lent .lines) undos
+      → (wait ≡ true → (sound ≡ all (lineSound opened) after) × (clean ≡ eachWaits Clean ULog (n .words) after (lent .buffers .redo)))
+      → (limits && (wait && (sound && clean))) ≡ consistent lent
   unfolding linear
-  parts-consistent limits lines undos redos a b c d =
-      ap₂ (λ (x y : Bool). x && y) (a ∙ ap inLimits (sym counted)) (ap₂ (λ (x y : Bool). x && y) b (ap₂ (λ (x y : Bool). x && y) c d))
+  parts-consistent limits wait sound clean a b c =
+      let rest : Bool = all (lineSound opened) after && eachWaits Clean ULog (n .words) after (lent .buffers .redo) in
+      ap₂ (λ (x y : Bool). x && y) (a ∙ ap inLimits (sym counted))
+      (and-under wait (sound && clean) rest (λ t. ap₂ (λ (x y : Bool). x && y) (c t .0) (c t .1)) ∙ ap (λ (x : Bool). x && rest) b)
       ∙ linear-consistent lent (length-listed (n .words / 8) _)
 
   -- a state outside its limits is not consistent
   pub outside-limits : inLimits n ≡ false → false ≡ consistent lent
-  outside-limits e = parts-consistent false _ _ _ (sym e) refl refl refl
+  outside-limits e = parts-consistent false _ _ _ (sym e) refl (λ t. (refl, refl))

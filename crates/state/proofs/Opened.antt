@@ -1,19 +1,19 @@
 -- The threads with an open transaction as bits of a number, and a line's test by them.
 use Prim.Native.Nat.{ℕ, zero, suc, _+_, _-_, _*_, _/_, _%_, _^_, _≤_, _<_}
 use mathlib.Core.Path.{_≡_, sym, ap, _∙_}
-use mathlib.Core.Bool.{Bool, true, false, cond, _&&_, _||_}
+use mathlib.Core.Bool.{Bool, true, false, cond, _&&_}
 use mathlib.Core.List.{List}
 use native.Mathlib.Decide.{decLt}
 use native.Mathlib.Nat.{pow-succ', div-div-eq-div-mul, add-zero, zero-add}
 use native.Mathlib.Omega.{arith}
-use borrow.Author.Tests.{lt-ltb, le-ltb}
+use borrow.Author.Tests.{lt-ltb, le-ltb, eq-eqb, ne-eqb}
 use lib.Bits.{bitAnd, and-mask}
 use lib.Dec.{eqb, ltb}
 use lib.ListN.{getD}
 use lib.Pow.{pow-mono}
 use Rattle.parts.specs.FreeLine.{nobody}
 use Rattle.state.specs.StateOf.{bareLine}
-use Rattle.state.specs.Linear.{lineSound, OpenBits}
+use Rattle.state.specs.Linear.{noneDirty, lineSound, OpenBits}
 
 -- bit k of the number is for thread t + k, up to thread 7
 pub record BitsFrom (opened : List Bool) (t bits : ℕ) : Type 0 where
@@ -69,14 +69,23 @@ module _ (opened : List Bool) where
       omega arith
 
 -- a line, by the code's test
-pub line-test : (opened : List Bool) (bits holder states : ℕ) → states < 2 ^ 16 → OpenBits opened bits
-    → ((ltb holder 8 && eqb (bitAnd (bits / 2 ^ (holder % 8)) 1) 1) || (eqb holder nobody && eqb states 0))
-    ≡ lineSound opened (bareLine holder states)
-unfolding lineSound
-line-test opened bits holder states small are-open =
-    elim (decLt holder 8) [
-      | yes l ↦
-          let same : holder % 8 ≡ holder = omega arith in
-          rw (lt-ltb states (2 ^ 16) small, same, and-mask (bits / 2 ^ holder) 1, are-open holder l)
-      | no g ↦ rw (lt-ltb states (2 ^ 16) small, le-ltb holder 8 (omega arith))
-    ]
+module _ (opened : List Bool) (bits holder states : ℕ) (small : states < 2 ^ 16) (are-open : OpenBits opened bits) where
+  -- nobody holds it
+  pub line-free : holder ≡ nobody → eqb states 0 ≡ lineSound opened (bareLine holder states)
+  unfolding lineSound
+  line-free free = rw (lt-ltb states (2 ^ 16) small, eq-eqb holder nobody free)
+
+  -- a thread, looked up by its bit
+  holds : (ltb holder 8 && eqb (bitAnd (bits / 2 ^ (holder % 8)) 1) 1) ≡ (ltb holder 8 && getD opened holder false)
+  holds =
+      elim (decLt holder 8) [
+        | yes l ↦
+            let same : holder % 8 ≡ holder = omega arith in
+            rw (same, and-mask (bits / 2 ^ holder) 1, are-open holder l)
+        | no g ↦ rw (le-ltb holder 8 (omega arith))
+      ]
+
+  pub line-held : (none : Bool) → none ≡ noneDirty states → (holder ≡ nobody → ⊥)
+      → ((ltb holder 8 && eqb (bitAnd (bits / 2 ^ (holder % 8)) 1) 1) && none) ≡ lineSound opened (bareLine holder states)
+  unfolding lineSound
+  line-held none e held = rw (e, lt-ltb states (2 ^ 16) small, ne-eqb holder nobody held, holds)

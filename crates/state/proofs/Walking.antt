@@ -13,14 +13,14 @@ use Rattle.parts.specs.declared.Entry.{Entry}
 use Rattle.parts.specs.declared.Line.{Line}
 use Rattle.parts.specs.Listed.{listed}
 use Rattle.parts.specs.FreeLine.{freeLine}
-use Rattle.parts.specs.States.{stateAt, withState, Dirty, URLog}
+use Rattle.parts.specs.States.{stateAt, withState}
 use Rattle.parts.proofs.Listed.{length-listed, getD-listed, set-listed}
 use Rattle.model.specs.Lists.{all}
 use Rattle.model.specs.Machine.{lineOf, stateIn, holderIn, statesAs, changed, marked, wordsMarked}
 use Rattle.buffers.specs.Keys.{keyThread, keyWord}
 use Rattle.buffers.specs.Waiting.{keyed, entryOf}
 use Rattle.state.specs.StateOf.{bareLine, bareEntry, linesLent, entriesLent}
-use Rattle.state.specs.Linear.{waitsFor, eachWaits, allMarked, lineWithoutDirty, undosWait, Walked}
+use Rattle.state.specs.Linear.{waitsFor, eachWaits, allMarked, Walked}
 
 -- a test of all elements, one more of them last
 pub all-last : {A : Type 0} (f : A → Bool) (xs : List A) (x : A) → all f (xs ++ (x ∷ [])) ≡ (all f xs && f x)
@@ -193,11 +193,3 @@ module _ (count : ℕ) (keys : List ℕ) where
     reached-end i states h so-far =
         let l : length (entriesLent count keys) ≤ i = rw length-listed h in
         so-far .onward true states (rw (drop-of-length-le (entriesLent count keys) l) (walked-none wanted next words holders states))
-
--- the undo+redo entries walked over, and then the states looked at
-pub undos-walked : (words : ℕ) (holders before : List ℕ) (es : List Entry) (states : List ℕ) (r t : Bool)
-    → Walked Dirty URLog words holders before es r states → t ≡ all lineWithoutDirty (linesLent (words / 8) holders states)
-    → (r && t) ≡ undosWait words (linesLent (words / 8) holders before) es
-unfolding undosWait
-undos-walked words holders before es states true t walked without = rw (← walked .each) (without ∙ ap (all lineWithoutDirty) (walked .lines refl))
-undos-walked words holders before es states false t walked without = rw (← walked .each)

@@ -1,8 +1,8 @@
 -- The test of a consistent state in time linear in lines and entries: each entry is looked at once, and its word
 -- marked, so that a second entry of the same word is noticed.
-use Prim.Native.Nat.{ℕ, zero, suc, _+_, _/_, _%_, _^_, _<_}
+use Prim.Native.Nat.{ℕ, _+_, _/_, _%_, _^_, _<_}
 use mathlib.Core.Path.{_≡_}
-use mathlib.Core.Bool.{Bool, true, false, _&&_, _||_, not}
+use mathlib.Core.Bool.{Bool, true, false, cond, _&&_, not}
 use mathlib.Core.List.{List, [], _∷_, map}
 use lib.Dec.{eqb, ltb, leb}
 use lib.ListN.{length, getD}
@@ -26,11 +26,16 @@ inLimits n =
     ((isWidth (n .words) && (leb 8 (n .slots) && leb (n .slots) 1024)) &&
     ((leb (n .undos) 16 && leb (n .redos) 32) && (leb (n .head) (n .tail) && leb (n .tail) (n .head + n .slots))))
 
--- a thread with an open transaction holds the line, or nobody does and its words are all Clean
+-- none of a line's eight states is Dirty
+abbrev pub noneDirty : ℕ → Bool
+noneDirty states = not (any (λ j. eqb (stateAt states j) Dirty) (upTo 8))
+
+-- nobody holds the line, and its words are all Clean; or a thread with an open transaction does, and none is Dirty
 unfoldable pub lineSound : List Bool → Line → Bool
 lineSound opened line =
     ltb (line .states) (2 ^ 16) &&
-    ((ltb (line .holder) 8 && getD opened (line .holder) false) || (eqb (line .holder) nobody && eqb (line .states) 0))
+    cond (eqb (line .holder) nobody) (eqb (line .states) 0)
+    ((ltb (line .holder) 8 && getD opened (line .holder) false) && noneDirty (line .states))
 
 -- bit t of a number is set where thread t has an open transaction
 abbrev pub OpenBits : List Bool → ℕ → Type 0
@@ -62,21 +67,6 @@ eachWaits wanted next words ls (e ∷ es) =
 abbrev pub allMarked : ℕ → List Line → List Entry → List Line
 allMarked next ls es = wordsMarked next (map (λ e. e .word) es) ls
 
--- none of a line's eight states is Dirty
-abbrev pub noneDirty : ℕ → Bool
-noneDirty states = not (any (λ j. eqb (stateAt states j) Dirty) (upTo 8))
-
-abbrev pub lineWithoutDirty : Line → Bool
-lineWithoutDirty line = noneDirty (line .states)
-
--- undo+redo entries wait for Dirty words, and none of these is without an entry
-unfoldable pub undosWait : ℕ → List Line → List Entry → Bool
-undosWait words ls es = eachWaits Dirty URLog words ls es && all lineWithoutDirty (allMarked URLog ls es)
-
--- redo entries wait for Clean words
-unfoldable pub redosWait : ℕ → List Line → List Entry → Bool
-redosWait words ls es = eachWaits Clean ULog words ls es
-
 -- the counts of a machine
 abbrev pub countsOf : Machine → Counts
 countsOf m =
@@ -89,12 +79,14 @@ countsOf m =
       redos = length (m .buffers .redo);
     }
 
+-- Undo+redo entries wait for Dirty words, and once these are marked none is Dirty; redo entries wait for Clean ones.
 unfoldable pub linear : Machine → Bool
 linear m =
+    let us = m .buffers .undoRedo in
+    let after = allMarked URLog (m .lines) us in
     inLimits (countsOf m) &&
-    (all (lineSound (m .opened)) (m .lines) &&
-    (undosWait (m .sizes .words) (m .lines) (m .buffers .undoRedo) && redosWait (m .sizes .words) (m .lines)
-    (m .buffers .redo)))
+    (eachWaits Dirty URLog (m .sizes .words) (m .lines) us &&
+    (all (lineSound (m .opened)) after && eachWaits Clean ULog (m .sizes .words) after (m .buffers .redo)))
 
 -- What a walk over entries finds: whether each waits, and if so their words are marked in the states that it leaves.
 pub record Walked (wanted next words : ℕ) (holders before : List ℕ) (es : List Entry) (r : Bool)

@@ -1,4 +1,4 @@
-// The lines: who holds them.
+// The lines: who holds them, and that no word is Dirty once those with an entry are marked.
 ghost use mathlib.Core.Path.{_≡_};
 ghost use mathlib.Core.Bool.{Bool, cond};
 ghost use mathlib.Core.List.{List};
@@ -6,7 +6,9 @@ ghost use Prim.Native.Nat.{_≤_};
 ghost use Rattle.model.specs.Lists.{all};
 ghost use Rattle.state.specs.StateOf.{bareLine, linesLent};
 ghost use Rattle.state.specs.Linear.{lineSound, OpenBits};
+use lines::ALL_CLEAN;
 use lines::NOBODY;
+use lines::has_dirty;
 
 fn bit(set: bool) -> u32
     ensures { λ r. ⌜ r ≡ cond set 1 0 ⌝ }
@@ -27,14 +29,16 @@ fn open_bits(opened: &[bool; 8]) -> u32
     bits
 }
 
-// A line is held by a thread with an open transaction, or free and all Clean.
+// Nobody holds the line, and its words are all Clean; or a thread with an open transaction does, and none is Dirty.
 fn line_sound(bits: u32, holder: u8, states: u16) -> bool
     ensures { λ r. ⌜ ((opened : List Bool) → OpenBits opened bits → r ≡ lineSound opened (bareLine holder states)) ⌝ }
 {
+    if holder == NOBODY {
+        return states == ALL_CLEAN;
+    }
     let thread = (holder % 8) as u32;
     let held = (holder < 8) & ((bits >> thread) & 1 == 1);
-    let free = (holder == NOBODY) & (states == 0);
-    held | free
+    held & !has_dirty(states)
 }
 
 // Each of the first lines is.

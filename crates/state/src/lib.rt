@@ -6,7 +6,6 @@ use lines::Lines;
 
 mod awaited;
 mod consistency;
-mod dirty_words;
 mod holding;
 mod limits;
 mod memory;

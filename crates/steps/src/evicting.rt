@@ -13,6 +13,7 @@ use crate::writing_back::line_refusal;
 use buffers::append_redos;
 use buffers::refill_keys;
 use buffers::refill_redos;
+use lines::ALL_CLEAN;
 use lines::count_ulog;
 use lines::holder_at;
 use lines::put_states;
@@ -68,13 +69,13 @@ pub(crate) fn evicted(
         return cut(working);
     }
     let states = states_at(&state.lines.states, at);
-    if states != 0 {
+    if states != ALL_CLEAN {
         let len = state.redos.len;
         let holder = holder_at(&state.lines.holders, at);
         refill_keys(&mut state.redos.keys, len, count, states, holder, at);
         refill_redos(&mut state.redos.redos, len, count, states, working, at);
         state.redos.len = len - count + count_ulog(states);
-        put_states(&mut state.lines.states, at, 0);
+        put_states(&mut state.lines.states, at, ALL_CLEAN);
     }
     state.tail = state.tail + count as u64;
     Outcome {

@@ -112,7 +112,7 @@ fn dispatch<'a>(
 }
 
 // A step on a state. What comes before its own rows is looked at here, once for all steps. The arrays that the test of
-// consistency looks at are taken out and lent, so that the rest of the state is not copied.
+// consistency looks at are taken out, so that the rest of the state is not copied.
 pub fn perform(
     state: Machine,
     step: Step,
@@ -139,7 +139,7 @@ pub fn perform(
     let undo_keys = state.undos.keys;
     let redo_keys = state.redos.keys;
     let sound = takes_state(step)
-        && is_consistent(counts, &opened, &holders, &states, &undo_keys, &redo_keys);
+        && is_consistent(counts, &opened, &holders, states, &undo_keys, &redo_keys);
     let number = first_refusal(state, step, sound, home, working, log);
     if number != 0 {
         return refused(number, supply, state);

@@ -1,11 +1,16 @@
 -- `is_consistent` meets its contract: its tests are the linear test, which is the definition.
-use mathlib.Core.Bool.{Bool, true, _&&_}
-use mathlib.Core.Path.{_≡_, refl, sym, ap, _∙_}
+use mathlib.Core.Bool.{true}
+use mathlib.Core.Path.{_≡_, sym, ap, _∙_}
+use mathlib.Core.List.{List}
 use Prim.Native.Nat.{_%_, _≤_}
 use native.Mathlib.Omega.{arith}
 use borrow.Author.Tests.{not-true, not-false}
 use borrow.Author.Needs.{needs}
-use Rattle.state.specs.Linear.{inLimits}
+use Rattle.parts.specs.declared.Line.{Line}
+use Rattle.parts.specs.States.{Clean, ULog}
+use Rattle.model.specs.Lists.{all}
+use Rattle.state.specs.StateOf.{entriesLent}
+use Rattle.state.specs.Linear.{inLimits, lineSound, eachWaits}
 use Rattle.state.proofs.Linear.{limits-hold, parts-consistent, outside-limits}
 use Rattle.state.proofs.consistency.is_consistent.Statement.{statement}
 use Rattle.state.proofs.consistency.is_consistent.Tie as tie
@@ -13,7 +18,7 @@ use Rattle.state.proofs.consistency.is_consistent.Tie as tie
 returns : tie.Need-returns
 returns c =
     let a = c .before .before .args in
-    outside-limits (a .n) (a .opened .now) (a .holders .now) (a .states .now) (a .undo-keys .now) (a .redo-keys .now)
+    outside-limits (a .n) (a .opened .now) (a .holders .now) (a .t4) (a .undo-keys .now) (a .redo-keys .now)
     (sym (c .before .within-limits .ensures) ∙ not-true _ (c .if1 .taken))
 
 -- where the limits are kept
@@ -26,15 +31,24 @@ module _ (c : tie.Else1) where
 
 returns-2 : tie.Need-returns-2
 returns-2 c =
-    let start = c .before .before .before .before in
+    let called = c .before .before .before .before .before .before in
+    let start = called .before .before .before in
     let a = start .before .before .args in
-    let lines = c .before .before .lines-sound in
-    ap (λ (t : Bool). lines .result && t) (c .all-wait .ensures)
-    ∙ parts-consistent (a .n) (a .opened .now) (a .holders .now) (a .states .now) (a .undo-keys .now) (a .redo-keys .now) true (lines .result) _ _
-    (sym (within start)) (lines .ensures) refl refl
+    let undos = called .each-waits in
+    let lines = c .before .before .before .lines-sound in
+    let redos = c .each-waits2 in
+    let es = entriesLent (a .n .redos) (a .redo-keys .now) in
+    parts-consistent (a .n) (a .opened .now) (a .holders .now) (a .t4) (a .undo-keys .now) (a .redo-keys .now) true
+    (undos .result) (lines .result) (redos .result) (sym (within start)) (undos .ensures .each)
+    (λ t.
+    let after = undos .ensures .lines t in (
+      lines .ensures ∙ ap (all (lineSound (a .opened .now))) after,
+      redos .ensures .each ∙ ap (λ (ls : List Line). eachWaits Clean ULog (a .n .words) ls es) after,
+    ))
 
 pub is-consistent-spec : {M : Type 1} → statement M
 is-consistent-spec =
     tie.close
-    (tie.spec (λ c κs. search needs) returns (λ c. search needs) (λ c κs. omega (arith, bounded (c .before)))
-    (λ c κs. bounded (c .before .before .before)) returns-2)
+    (tie.spec (λ c κs. search needs) returns (λ c κs. let b = bounded (c .before .before) in search needs)
+    (λ c. search needs) (λ c κs. omega (arith, bounded (c .before .before .before .before .before)))
+    (λ c κs. omega (arith, bounded (c .before .before .before .before .before .before .before .before))) returns-2)

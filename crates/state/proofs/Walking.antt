@@ -1,18 +1,19 @@
 -- Walks over the lines and over the entries that are lent, one after the other.
-use Prim.Native.Nat.{ℕ, _+_, _/_, _%_, _≤_, _<_}
+use Prim.Native.Nat.{ℕ, zero, suc, _+_, _/_, _%_, _^_, _≤_, _<_}
 use mathlib.Core.Path.{_≡_, refl, sym, ap, ap₂, _∙_, subst}
 use mathlib.Core.Bool.{Bool, true, false, _&&_, and-true, and-assoc, false≢true}
 use mathlib.Core.List.{List, [], _∷_, _++_}
+use native.Mathlib.Nat.{add-zero}
 use native.Mathlib.Numerals.{add-one}
 use native.Mathlib.Omega.{arith}
-use borrow.Author.Tests.{lt-ltb, le-ltb}
+use borrow.Author.Tests.{lt-ltb, le-ltb, eqb-true}
 use lib.Dec.{eqb, ltb}
 use lib.ListN.{length, getD, drop, set, length-set, drop-of-length-le}
 use lib.Seq.{drop-cons, getD-set-same, getD-set-other}
 use Rattle.parts.specs.declared.Entry.{Entry}
 use Rattle.parts.specs.declared.Line.{Line}
 use Rattle.parts.specs.Listed.{listed}
-use Rattle.parts.specs.FreeLine.{freeLine}
+use Rattle.parts.specs.FreeLine.{nobody, freeLine}
 use Rattle.parts.specs.States.{stateAt, withState}
 use Rattle.parts.proofs.Listed.{length-listed, getD-listed, set-listed}
 use Rattle.model.specs.Lists.{all}
@@ -20,7 +21,8 @@ use Rattle.model.specs.Machine.{lineOf, stateIn, holderIn, statesAs, changed, m
 use Rattle.buffers.specs.Keys.{keyThread, keyWord}
 use Rattle.buffers.specs.Waiting.{keyed, entryOf}
 use Rattle.state.specs.StateOf.{bareLine, bareEntry, linesLent, entriesLent}
-use Rattle.state.specs.Linear.{waitsFor, eachWaits, allMarked, Walked}
+use Rattle.state.specs.Linear.{lineFree, lineSound, waitsFor, eachWaits, allMarked, Walked}
+use Rattle.state.proofs.Marks.{halves}
 
 -- a test of all elements, one more of them last
 pub all-last : {A : Type 0} (f : A → Bool) (xs : List A) (x : A) → all f (xs ++ (x ∷ [])) ≡ (all f xs && f x)
@@ -31,6 +33,25 @@ all-last f (y ∷ xs) x = ap (λ (t : Bool). f y && t) (all-last f xs x) ∙ sym
 pub all-more : {A : Type 0} (f : A → Bool) (n : ℕ) (g : ℕ → A) → all f (listed (n + 1) g) ≡ (all f (listed n g) && f (g n))
 unfolding listed
 all-more f n g = ap (λ (k : ℕ). all f (listed k g)) (add-one n) ∙ all-last f (listed n g) (g n)
+
+-- free lines pass the test of the lines
+free-sound : (opened : List Bool) (l : Line) → lineFree l ≡ true → lineSound opened l ≡ true
+unfolding lineSound
+free-sound opened l t =
+    let h = halves (eqb (l .holder) nobody) (eqb (l .states) 0) t in
+    let clean : l .states ≡ 0 = eqb-true (l .states) 0 (h .1) in
+    rw (lt-ltb (l .states) (2 ^ 16) (omega arith), h .0, h .1)
+
+pub free-more : (opened : List Bool) (n i : ℕ) (g : ℕ → Line) → all lineFree (listed n (λ k. g (i + k))) ≡ true
+    → all (lineSound opened) (listed (i + n) g) ≡ all (lineSound opened) (listed i g)
+unfolding listed
+free-more opened zero i g t = ap (λ (k : ℕ). all (lineSound opened) (listed k g)) (add-zero i)
+free-more opened (suc n) i g t =
+    let h = halves (all lineFree (listed n (λ k. g (i + k)))) (lineFree (g (i + n))) (sym (all-last lineFree (listed n (λ k. g (i + k))) (g (i + n))) ∙ t) in
+    let next : i + suc n ≡ suc (i + n) = omega arith in
+    ap (λ (k : ℕ). all (lineSound opened) (listed k g)) next ∙ all-last (lineSound opened) (listed (i + n) g) (g (i + n))
+    ∙ ap (λ (b : Bool). all (lineSound opened) (listed (i + n) g) && b) (free-sound opened (g (i + n)) (h .1))
+    ∙ and-true (all (lineSound opened) (listed (i + n) g)) ∙ free-more opened n i g (h .0)
 
 module _ (holders states : List ℕ) where
   abbrev line : ℕ → Line

@@ -30,7 +30,11 @@ inLimits n =
 abbrev pub noneDirty : ℕ → Bool
 noneDirty states = not (any (λ j. eqb (stateAt states j) Dirty) (upTo 8))
 
--- nobody holds the line, and its words are all Clean; or a thread with an open transaction does, and none is Dirty
+-- nobody holds the line, and its words are all Clean
+abbrev pub lineFree : Line → Bool
+lineFree line = eqb (line .holder) nobody && eqb (line .states) 0
+
+-- that, or a thread with an open transaction does, and none is Dirty
 unfoldable pub lineSound : List Bool → Line → Bool
 lineSound opened line =
     ltb (line .states) (2 ^ 16) &&

@@ -1,6 +1,6 @@
 -- The state by the parts that the clauses of a consistent one look at: of a line its holder and its words' states, of
 -- an entry its thread and word. Its dirty flags and values are false and 0, and it is not lost.
-use Prim.Native.Nat.{ℕ}
+use Prim.Native.Nat.{ℕ, _+_}
 use mathlib.Core.Bool.{Bool, false}
 use mathlib.Core.List.{List, []}
 use lib.ListN.{getD}
@@ -20,6 +20,10 @@ bareEntry thread word = record { thread = thread; word = word; undo = 0; redo = 
 -- the first n lines; past the last place they are zeros
 abbrev pub linesLent : ℕ → List ℕ → List ℕ → List Line
 linesLent n holders states = listed n (λ i. bareLine (getD holders i 0) (getD states i 0))
+
+-- n lines from a line on
+abbrev pub linesFrom : ℕ → ℕ → List ℕ → List ℕ → List Line
+linesFrom from n holders states = listed n (λ k. bareLine (getD holders (from + k) 0) (getD states (from + k) 0))
 
 -- the first n entries, by their keys
 abbrev pub entriesLent : ℕ → List ℕ → List Entry

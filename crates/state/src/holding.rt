@@ -1,11 +1,12 @@
 // The lines: who holds them, and that no word is Dirty once those with an entry are marked.
 ghost use mathlib.Core.Path.{_≡_};
-ghost use mathlib.Core.Bool.{Bool, cond};
+ghost use mathlib.Core.Bool.{Bool, cond, _&&_};
 ghost use mathlib.Core.List.{List};
-ghost use Prim.Native.Nat.{_≤_};
+ghost use Prim.Native.Nat.{_+_, _≤_};
+ghost use lib.Dec.{leb};
 ghost use Rattle.model.specs.Lists.{all};
-ghost use Rattle.state.specs.StateOf.{bareLine, linesLent};
-ghost use Rattle.state.specs.Linear.{lineSound, OpenBits};
+ghost use Rattle.state.specs.StateOf.{bareLine, linesLent, linesFrom};
+ghost use Rattle.state.specs.Linear.{lineFree, lineSound, OpenBits};
 use lines::ALL_CLEAN;
 use lines::NOBODY;
 use lines::has_dirty;
@@ -41,7 +42,25 @@ fn line_sound(bits: u32, holder: u8, states: u16) -> bool
     held & !has_dirty(states)
 }
 
-// Each of the first lines is.
+// There are eight lines from `from` on, nobody holds one of them, and their words are all Clean.
+fn eight_free(count: usize, from: usize, holders: &[u8; 64], states: &[u16; 64]) -> bool
+    requires { ⌜ (count ≤ 64) × (from ≤ 64) ⌝ }
+    ensures { λ r. ⌜ r ≡ (leb (from + 8) count && all lineFree (linesFrom from 8 (now (holders .entry)) (now
+        (states .entry)))) ⌝ }
+{
+    if count < from + 8 {
+        return false;
+    }
+    let mut free = true;
+    let mut j = 0;
+    while j < 8 {
+        free = free & ((holders[from + j] == NOBODY) & (states[from + j] == ALL_CLEAN));
+        j += 1;
+    }
+    free
+}
+
+// Each of the first lines is sound. Eight free ones are passed over at once.
 pub(crate) fn lines_sound<'a>(
     count: usize,
     opened: &'a [bool; 8],
@@ -56,8 +75,12 @@ pub(crate) fn lines_sound<'a>(
     let mut sound = true;
     let mut i = 0;
     while i < count {
-        sound = sound & line_sound(bits, holders[i], states[i]);
-        i += 1;
+        if eight_free(count, i, holders, states) {
+            i += 8;
+        } else {
+            sound = sound & line_sound(bits, holders[i], states[i]);
+            i += 1;
+        }
     }
     sound
 }

@@ -20,7 +20,7 @@ use Rattle.model.specs.Lists.{keep, all, upTo, isEmpty}
 use Rattle.model.specs.Machine.{Machine, lineOf, stateIn, holderIn, marked}
 use Rattle.model.specs.Consistent.{isWidth, entriesOf, lineLimits, entryLimits, withinLimits, consistent}
 use Rattle.model.specs.Consistent.{dirtyWait, redoClean, entriesHeld, holdersOpen, freeClean}
-use Rattle.model.proofs.Lists.{both-left, both-right, every-implied, every-kept, every-listed}
+use Rattle.model.proofs.Lists.{halves, both-left, both-right, every-implied, every-kept, every-listed}
 use Rattle.model.proofs.Lines.{state-marked, holder-marked, length-marked, length-words, state-logged}
 use Rattle.model.proofs.Core.{EntryOk}
 use Rattle.model.proofs.Consistency.{both, all-true, every-entry, entry-limits, WaitsFor, AllWait, all-in-state, all-alone, all-held}
@@ -29,7 +29,7 @@ use Rattle.buffers.specs.Waiting.{entryOf}
 use Rattle.state.specs.declared.Counts.{Counts}
 use Rattle.state.specs.StateOf.{linesLent, entriesLent, stateOf}
 use Rattle.state.specs.Linear.{inLimits, lineSound, waitsFor, eachWaits, allMarked, countsOf, linear}
-use Rattle.state.proofs.Marks.{and-under, halves, all-both, Waiting, waiting-test, test-waiting, lineHeld, lineWithoutDirty, after-marks}
+use Rattle.state.proofs.Marks.{and-under, all-both, Waiting, waiting-test, test-waiting, holderSound, lineWithoutDirty, after-marks}
 use Rattle.state.proofs.NoneDirty.{none-dirty, none-dirty-test}
 
 -- ---- tests
@@ -50,9 +50,9 @@ record Limits (n : Counts) : Type 0 where
 limits : (n : Counts) → inLimits n ≡ true → Limits n
 unfolding inLimits
 limits n t =
-    let all = halves (leb (n .head) numbers && leb (n .tail) numbers) (size && (few && order)) t in
-    let w = halves size (few && order) (all .1) in
-    let s = halves few order (w .1) in
+    let all = halves t in
+    let w = halves (all .1) in
+    let s = halves (w .1) in
     record { bounds = all .0; sizes = w .0; entries = s .0; order = s .1 }
   where
     size : Bool
@@ -68,7 +68,7 @@ limits n t =
 
 -- a line's test, clause by clause
 line-clauses : (opened : List Bool) (line : Line)
-    → lineHeld opened line
+    → holderSound opened line
     ≡ (lineLimits line &&
     ((eqb (line .holder) nobody || getD opened (line .holder) false) && (not (eqb (line .holder) nobody) || eqb (line .states) 0)))
 unfolding lineLimits
@@ -86,7 +86,7 @@ line-clauses opened line =
           ]
     ]
 
-lines-clauses : (m : Machine) → all (lineHeld (m .opened)) (m .lines) ≡ (all lineLimits (m .lines) && (holdersOpen m && freeClean m))
+lines-clauses : (m : Machine) → all (holderSound (m .opened)) (m .lines) ≡ (all lineLimits (m .lines) && (holdersOpen m && freeClean m))
 unfolding holdersOpen freeClean
 lines-clauses m =
     ap (λ (f : Line → Bool). all f (m .lines)) (λ i line. line-clauses (m .opened) line i)
@@ -194,7 +194,7 @@ module _ (wanted next words : ℕ) (small : next < 4) (other : next ≡ wanted �
   unfolding eachWaits keep
   test-walkable [] ls wide t = record { ok = tt; held = tt; once = λ w. none refl }
   test-walkable (e ∷ es) ls wide t =
-      let h = halves (waitsFor wanted words ls e) (eachWaits wanted next words (marked next (e .word) ls) es) t in
+      let h = halves t in
       walkable-more ls e es wide (test-waiting wanted words ls e (h .0))
       (test-walkable es (marked next (e .word) ls) (rw length-marked wide) (h .1))
 
@@ -280,7 +280,7 @@ module _ (words : ℕ) (ls : List Line) (es : List Entry) (wide : words ≡ 8 * 
   undos-each : undosWait words ls es ≡ true → Walkable Dirty words ls es × ((w : ℕ) → w < words → dirtyOnce w ≡ true)
   unfolding undosWait
   undos-each t =
-      let h = halves (eachWaits Dirty URLog words ls es) (all lineWithoutDirty (allMarked URLog ls es)) t in
+      let h = halves t in
       let walk = test-walkable Dirty URLog words (omega arith) (λ e. absurd (omega arith)) es ls (omega arith) (h .0) in
       (walk, λ w b. each walk (h .1) w b (walk .once w))
     where
@@ -314,25 +314,25 @@ every-pair P Q (x ∷ xs) p q = ((p .0, q .0), every-pair P Q xs (p .1) (q .1))
 unfoldable clausewise : Machine → Bool
 clausewise m =
     inLimits (countsOf m) &&
-    (all (lineHeld (m .opened)) (m .lines) &&
+    (all (holderSound (m .opened)) (m .lines) &&
     (undosWait (m .sizes .words) (m .lines) (m .buffers .undoRedo) && eachWaits Clean ULog (m .sizes .words) (m .lines) (m .buffers .redo)))
 
 module _ (m : Machine) (lines : length (m .lines) ≡ m .sizes .words / 8) where
   -- W is a multiple of 8
   wide : isWidth (m .sizes .words) ≡ true → m .sizes .words ≡ 8 * length (m .lines)
   wide w =
-      let e = halves (leb 8 (m .sizes .words)) (leb (m .sizes .words) 512 && eqb (m .sizes .words % 8) 0) w in
-      let f : m .sizes .words % 8 ≡ 0 = eqb-true (m .sizes .words % 8) 0 (halves (leb (m .sizes .words) 512) (eqb (m .sizes .words % 8) 0) (e .1) .1) in
+      let e = halves {a = leb 8 (m .sizes .words)} {b = leb (m .sizes .words) 512 && eqb (m .sizes .words % 8) 0} w in
+      let f : m .sizes .words % 8 ≡ 0 = eqb-true (m .sizes .words % 8) 0 (halves {a = leb (m .sizes .words) 512} {b = eqb (m .sizes .words % 8) 0} (e .1) .1) in
       omega arith
 
   clausewise-passes : clausewise m ≡ true → consistent m ≡ true
   unfolding clausewise consistent withinLimits dirtyWait redoClean entriesHeld
   clausewise-passes t =
-      let h = halves (inLimits (countsOf m)) (sound && (undos && redos)) t in
+      let h = halves t in
       let n = limits (countsOf m) (h .0) in
-      let b = halves sound (undos && redos) (h .1) in
-      let e = halves undos redos (b .1) in
-      let l = halves (all lineLimits (m .lines)) (holdersOpen m && freeClean m) (sym (lines-clauses m) ∙ b .0) in
+      let b = halves (h .1) in
+      let e = halves (b .1) in
+      let l = halves {a = all lineLimits (m .lines)} {b = holdersOpen m && freeClean m} (sym (lines-clauses m) ∙ b .0) in
       let wide' = wide (both-left (isWidth (m .sizes .words)) (leb 8 (m .sizes .slots) && leb (m .sizes .slots) 1024) (n .sizes)) in
       let u = undos-each (m .sizes .words) (m .lines) (m .buffers .undoRedo) wide' (e .0) in
       let d = test-walkable Clean ULog (m .sizes .words) (omega arith) (λ q. absurd (omega arith)) (m .buffers .redo) (m .lines) (omega arith) (e .1) in
@@ -351,7 +351,7 @@ module _ (m : Machine) (lines : length (m .lines) ≡ m .sizes .words / 8) where
       (both (both (all-held Dirty (m .lines) (m .buffers .undoRedo) us) (all-held Clean (m .lines) (m .buffers .redo) ds)) (l .1)))))
     where
       sound : Bool
-      sound = all (lineHeld (m .opened)) (m .lines)
+      sound = all (holderSound (m .opened)) (m .lines)
 
       undos : Bool
       undos = undosWait (m .sizes .words) (m .lines) (m .buffers .undoRedo)
@@ -367,7 +367,7 @@ module _ (m : Machine) (lines : length (m .lines) ≡ m .sizes .words / 8) where
     held : Every (λ e. eqb (e .thread) (holderIn (m .lines) (e .word)) ≡ true) (m .buffers .undoRedo)
         × Every (λ e. eqb (e .thread) (holderIn (m .lines) (e .word)) ≡ true) (m .buffers .redo)
     unfolding entriesHeld
-    held = let h = halves _ _ (c .held) in (all-every _ (m .buffers .undoRedo) (h .0), all-every _ (m .buffers .redo) (h .1))
+    held = let h = halves (c .held) in (all-every _ (m .buffers .undoRedo) (h .0), all-every _ (m .buffers .redo) (h .1))
 
     -- a Dirty word has one undo+redo entry
     dirty-once : (w : ℕ) → w < m .sizes .words → dirtyOnce (m .sizes .words) (m .lines) (m .buffers .undoRedo) (wide (c .width)) w ≡ true
@@ -394,7 +394,7 @@ module _ (m : Machine) (lines : length (m .lines) ≡ m .sizes .words / 8) where
     redos-wait =
         every-implied _ (λ e. WaitsFor Clean (m .lines) (m .buffers .redo) (e .word) e) (m .buffers .redo)
         (λ e p.
-        let s = halves (eqb (stateIn (m .lines) (e .word)) Clean) (eqb (length (entriesOf (e .word) (m .buffers .redo))) 1) (p .1) in
+        let s = halves (p .1) in
         record {
           state = eqb-true (stateIn (m .lines) (e .word)) Clean (s .0);
           alone = eqb-true (length (entriesOf (e .word) (m .buffers .redo))) 1 (s .1);
@@ -435,9 +435,9 @@ pub limits-hold : (n : Counts) → inLimits n ≡ true → (n .words ≤ 512) ×
 limits-hold n t =
     let l = limits n t in
     let rest = leb (n .words) 512 && eqb (n .words % 8) 0 in
-    let w = halves (leb 8 (n .words)) rest (both-left (isWidth (n .words)) (leb 8 (n .slots) && leb (n .slots) 1024) (l .sizes)) in
-    let v = halves (leb (n .words) 512) (eqb (n .words % 8) 0) (w .1) in
-    let e = halves (leb (n .undos) 16) (leb (n .redos) 32) (l .entries) in
+    let w = halves {a = leb 8 (n .words)} {b = rest} (both-left (isWidth (n .words)) (leb 8 (n .slots) && leb (n .slots) 1024) (l .sizes)) in
+    let v = halves (w .1) in
+    let e = halves (l .entries) in
     (leb-true (n .words) 512 (v .0), (eqb-true (n .words % 8) 0 (v .1), (leb-true (n .undos) 16 (e .0), leb-true (n .redos) 32 (e .1))))
 
 -- the state that is lent

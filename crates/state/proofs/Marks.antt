@@ -16,7 +16,7 @@ use Rattle.parts.specs.States.{Clean, Dirty, URLog, ULog, stateAt, withState}
 use Rattle.parts.proofs.States.{state-fits, state-fitted}
 use Rattle.model.specs.Lists.{any, all}
 use Rattle.model.specs.Machine.{lineOf, stateIn, holderIn, statesAs, changed, marked, wordsMarked}
-use Rattle.model.proofs.Lists.{both-left, both-right}
+use Rattle.model.proofs.Lists.{halves}
 use Rattle.model.proofs.Lines.{state-marked, holder-marked, length-marked}
 use Rattle.model.proofs.Core.{EntryOk}
 use Rattle.model.proofs.Consistency.{both}
@@ -28,10 +28,6 @@ use Rattle.state.specs.Linear.{noneDirty, lineSound, waitsFor, eachWaits
 pub and-under : (t x y : Bool) → (t ≡ true → x ≡ y) → (t && x) ≡ (t && y)
 and-under true x y h = h refl
 and-under false x y h = refl
-
--- the halves of a test that passes
-pub halves : (a b : Bool) → (a && b) ≡ true → (a ≡ true) × (b ≡ true)
-halves a b e = (both-left a b e, both-right a b e)
 
 -- two tests of every element are one
 shuffled : (a b c d : Bool) → ((a && b) && (c && d)) ≡ ((a && c) && (b && d))
@@ -64,9 +60,9 @@ module _ (wanted words : ℕ) (ls : List Line) (e : Entry) where
   pub test-waiting : waitsFor wanted words ls e ≡ true → Waiting wanted words ls e
   unfolding waitsFor
   test-waiting t =
-      let word = halves (ltb (e .word) words) (ltb (e .thread) 8 && (holds && stands)) t in
-      let thread = halves (ltb (e .thread) 8) (holds && stands) (word .1) in
-      let rest = halves holds stands (thread .1) in
+      let word = halves t in
+      let thread = halves (word .1) in
+      let rest = halves (thread .1) in
       record {
         ok = record { thread = ltb-true (e .thread) 8 (thread .0); word = ltb-true (e .word) words (word .0) };
         held = eqb-true (e .thread) (holderIn ls (e .word)) (rest .0);
@@ -127,7 +123,7 @@ module _ (words : ℕ) where
   undos-leave [] ls wide t = same ls
   undos-leave (e ∷ es) ls wide t =
       let next : List Line = marked URLog (e .word) ls in
-      let h = halves (waitsFor Dirty words ls e) (eachWaits Dirty URLog words next es) t in
+      let h = halves t in
       let first = test-waiting Dirty words ls e (h .0) in
       let below = first .ok .word in
       let one = other-marked URLog ls (e .word) (omega arith) refl (omega arith) (rw (first .state)) in
@@ -159,8 +155,8 @@ module _ (words : ℕ) where
 -- ---- the lines
 
 -- a thread with an open transaction holds the line, or nobody does and its words are all Clean
-abbrev pub lineHeld : List Bool → Line → Bool
-lineHeld opened line =
+abbrev pub holderSound : List Bool → Line → Bool
+holderSound opened line =
     ltb (line .states) (2 ^ 16) &&
     ((ltb (line .holder) 8 && getD opened (line .holder) false) || (eqb (line .holder) nobody && eqb (line .states) 0))
 
@@ -172,7 +168,7 @@ unfolding any listed stateAt
 all-clean = refl
 
 -- the test of a line is both
-line-parts : (opened : List Bool) (line : Line) → lineSound opened line ≡ (lineHeld opened line && lineWithoutDirty line)
+line-parts : (opened : List Bool) (line : Line) → lineSound opened line ≡ (holderSound opened line && lineWithoutDirty line)
 unfolding lineSound
 line-parts opened line =
     let small : Bool = ltb (line .states) (2 ^ 16) in
@@ -208,42 +204,42 @@ all-set f (y ∷ xs) (suc i) x d e = ap (λ (t : Bool). f y && t) (all-set f xs 
 module _ (words : ℕ) (opened : List Bool) where
   -- a word is marked in a line that a thread holds
   one-held : (e : Entry) (ls : List Line) → Waiting Dirty words ls e
-      → all (lineHeld opened) (marked URLog (e .word) ls) ≡ all (lineHeld opened) ls
+      → all (holderSound opened) (marked URLog (e .word) ls) ≡ all (holderSound opened) ls
   unfolding marked changed holderIn
   one-held e ls w =
       let line : Line = lineOf ls (e .word / 8) in
       let holder : line .holder < 8 = let t = w .ok .thread in let h = w .held in omega arith in
       let j : ℕ = e .word % 8 in
-      all-set (lineHeld opened) ls (e .word / 8) (statesAs (withState (line .states) j URLog) line) freeLine
+      all-set (holderSound opened) ls (e .word / 8) (statesAs (withState (line .states) j URLog) line) freeLine
       (rw (same-limits (line .states) j URLog (omega arith) (omega arith), ne-eqb (line .holder) nobody (omega arith)))
 
   marked-held : (es : List Entry) (ls : List Line) → eachWaits Dirty URLog words ls es ≡ true
-      → all (lineHeld opened) (allMarked URLog ls es) ≡ all (lineHeld opened) ls
+      → all (holderSound opened) (allMarked URLog ls es) ≡ all (holderSound opened) ls
   unfolding eachWaits wordsMarked
   marked-held [] ls t = refl
   marked-held (e ∷ es) ls t =
       let next : List Line = marked URLog (e .word) ls in
-      let h = halves (waitsFor Dirty words ls e) (eachWaits Dirty URLog words next es) t in
+      let h = halves t in
       marked-held es next (h .1) ∙ one-held e ls (test-waiting Dirty words ls e (h .0))
 
   -- So lines and redo entries may be looked at once the words of the undo+redo entries are marked.
   pub after-marks : (us rs : List Entry) (ls : List Line) → words ≤ 8 * length ls
       → (eachWaits Dirty URLog words ls us &&
       (all (lineSound opened) (allMarked URLog ls us) && eachWaits Clean ULog words (allMarked URLog ls us) rs))
-      ≡ (all (lineHeld opened) ls &&
+      ≡ (all (holderSound opened) ls &&
       ((eachWaits Dirty URLog words ls us && all lineWithoutDirty (allMarked URLog ls us)) && eachWaits Clean ULog words ls rs))
   after-marks us rs ls wide =
       let after : List Line = allMarked URLog ls us in
       let undos : Bool = eachWaits Dirty URLog words ls us in
       let redos : Bool = eachWaits Clean ULog words ls rs in
       let without : Bool = all lineWithoutDirty after in
-      let sound : all (lineSound opened) after ≡ (all (lineHeld opened) after && without) =
-      ap (λ (f : Line → Bool). all f after) (λ i line. line-parts opened line i) ∙ all-both (lineHeld opened) lineWithoutDirty after in
-      and-under undos (all (lineSound opened) after && eachWaits Clean ULog words after rs) ((all (lineHeld opened) ls && without) && redos)
+      let sound : all (lineSound opened) after ≡ (all (holderSound opened) after && without) =
+      ap (λ (f : Line → Bool). all f after) (λ i line. line-parts opened line i) ∙ all-both (holderSound opened) lineWithoutDirty after in
+      and-under undos (all (lineSound opened) after && eachWaits Clean ULog words after rs) ((all (holderSound opened) ls && without) && redos)
       (λ t.
       ap₂ (λ (x y : Bool). x && y) (sound ∙ ap (λ (x : Bool). x && without) (marked-held us ls t))
       (redos-same words rs after ls wide (undos-leave words us ls wide t)))
-      ∙ moved undos (all (lineHeld opened) ls) without redos
+      ∙ moved undos (all (holderSound opened) ls) without redos
     where
       moved : (u h d r : Bool) → (u && ((h && d) && r)) ≡ (h && ((u && d) && r))
       moved true h d r = and-assoc h d r

@@ -17,12 +17,12 @@ use Rattle.parts.specs.FreeLine.{nobody, freeLine}
 use Rattle.parts.specs.States.{stateAt, withState}
 use Rattle.parts.proofs.Listed.{length-listed, getD-listed, set-listed}
 use Rattle.model.specs.Lists.{all}
+use Rattle.model.proofs.Lists.{halves}
 use Rattle.model.specs.Machine.{lineOf, stateIn, holderIn, statesAs, changed, marked, wordsMarked}
 use Rattle.buffers.specs.Keys.{keyThread, keyWord}
 use Rattle.buffers.specs.Waiting.{keyed, entryOf}
 use Rattle.state.specs.StateOf.{bareLine, bareEntry, linesLent, entriesLent}
 use Rattle.state.specs.Linear.{lineFree, lineSound, waitsFor, eachWaits, allMarked, Walked}
-use Rattle.state.proofs.Marks.{halves}
 
 -- a test of all elements, one more of them last
 pub all-last : {A : Type 0} (f : A → Bool) (xs : List A) (x : A) → all f (xs ++ (x ∷ [])) ≡ (all f xs && f x)
@@ -38,7 +38,7 @@ all-more f n g = ap (λ (k : ℕ). all f (listed k g)) (add-one n) ∙ all-last 
 free-sound : (opened : List Bool) (l : Line) → lineFree l ≡ true → lineSound opened l ≡ true
 unfolding lineSound
 free-sound opened l t =
-    let h = halves (eqb (l .holder) nobody) (eqb (l .states) 0) t in
+    let h = halves {a = eqb (l .holder) nobody} {b = eqb (l .states) 0} t in
     let clean : l .states ≡ 0 = eqb-true (l .states) 0 (h .1) in
     rw (lt-ltb (l .states) (2 ^ 16) (omega arith), h .0, h .1)
 
@@ -47,8 +47,8 @@ pub free-more : (opened : List Bool) (n i : ℕ) (g : ℕ → Line) → all line
 unfolding listed
 free-more opened zero i g t = ap (λ (k : ℕ). all (lineSound opened) (listed k g)) (add-zero i)
 free-more opened (suc n) i g t =
-    let h = halves (all lineFree (listed n (λ k. g (i + k)))) (lineFree (g (i + n))) (sym (all-last lineFree (listed n (λ k. g (i + k))) (g (i + n))) ∙ t) in
     let next : i + suc n ≡ suc (i + n) = omega arith in
+    let h = halves (sym (all-last lineFree (listed n (λ k. g (i + k))) (g (i + n))) ∙ t) in
     ap (λ (k : ℕ). all (lineSound opened) (listed k g)) next ∙ all-last (lineSound opened) (listed (i + n) g) (g (i + n))
     ∙ ap (λ (b : Bool). all (lineSound opened) (listed (i + n) g) && b) (free-sound opened (g (i + n)) (h .1))
     ∙ and-true (all (lineSound opened) (listed (i + n) g)) ∙ free-more opened n i g (h .0)

@@ -9,9 +9,9 @@ use lib.ListN.{getD}
 use Rattle.parts.specs.declared.Line.{Line}
 use Rattle.parts.specs.Listed.{listed}
 use Rattle.model.specs.Lists.{all}
+use Rattle.model.proofs.Lists.{halves}
 use Rattle.state.specs.StateOf.{bareLine, linesLent, linesFrom}
 use Rattle.state.specs.Linear.{lineFree, lineSound}
-use Rattle.state.proofs.Marks.{halves}
 use Rattle.state.proofs.Walking.{all-more, free-more}
 use Rattle.state.proofs.holding.lines_sound.Statement.{statement}
 use Rattle.state.proofs.holding.lines_sound.Tie as tie
@@ -38,7 +38,7 @@ module _ (c : tie.Then1 Inv-loop μ-loop) where
   eight : (leb (at + 8) (given .args .count) ≡ true)
       × (all lineFree (linesFrom at 8 (given .args .holders .now) (given .args .states .now)) ≡ true)
   eight =
-      halves (leb (at + 8) (given .args .count)) (all lineFree (linesFrom at 8 (given .args .holders .now) (given .args .states .now)))
+      halves
       (sym (c .before .eight-free .ensures) ∙ c .if1 .taken)
 
   there : at + 8 ≤ given .args .count

@@ -49,7 +49,7 @@ fn digests() {
         }
         println!("{digest:016x}");
     }
-    for answer in (0..=15).chain([255]) {
+    for answer in (0..=17).chain([255]) {
         println!("answer {answer} {}", answers[answer]);
     }
     println!("lists {LISTS}, steps {}", answers.iter().sum::<u64>());
@@ -108,7 +108,7 @@ fn observe(counts: &mut Counts, e: &Event) {
         let waiting = e.after.redo.entries().len();
         count(format!("redo entries after a set down: {waiting:2}"));
     }
-    if e.answer == 10 {
+    if matches!(e.answer, 10 | 16 | 17) {
         count(format!("full log of {} slots", e.setup.slots));
     }
     let stores = e.step.supply - e.left;

@@ -36,6 +36,10 @@ pub const NOTHING: u64 = 12;
 pub const HEAD: u64 = 13;
 pub const DAMAGED: u64 = 14;
 pub const NEEDED: u64 = 15;
+/// Full, and the oldest record is open.
+pub const FULL_OPEN: u64 = 16;
+/// Full, and the oldest record is closed, but its line is dirty.
+pub const FULL_DIRTY: u64 = 17;
 pub const CUT: u64 = 255;
 
 /// Answer number and supply count left.
@@ -189,6 +193,18 @@ impl Record {
             redo,
         })
     }
+}
+
+/// Whether the oldest record may be deleted, and if not, why.
+enum Oldest {
+    /// The log has no record.
+    Absent,
+    Bad,
+    /// No commit, and no later commit of its thread is in the log.
+    Open,
+    /// No commit; a later one of its thread is there, but its line is dirty.
+    Needed,
+    Deletable,
 }
 
 /// A change that waits to be logged. Redo entries leave `undo` 0.
@@ -506,9 +522,49 @@ impl State {
         Ok(line)
     }
 
-    fn judge_records(&self, records: usize) -> Verdict {
+    /// The one rule about the oldest record, for a delete and for a full log.
+    /// It reads by decoding alone: a bad record is no commit.
+    fn oldest(&self, log: &[u64]) -> Oldest {
+        let count = (self.tail - self.head) as usize;
+        if count == 0 {
+            return Oldest::Absent;
+        }
+        let window = Window::new(self.head, self.slots);
+        let read = |index| Record::read(&log[window.slot(index)], self.words);
+        let Some(oldest) = read(0) else {
+            return Oldest::Bad;
+        };
+        if oldest.kind == Kind::Commit {
+            return Oldest::Deletable;
+        }
+        let closes = |r: Record| r.kind == Kind::Commit && r.thread == oldest.thread;
+        let closed = (1..count).any(|index| read(index).is_some_and(closes));
+        if !closed {
+            Oldest::Open
+        } else if self.dirty[oldest.word / 8] {
+            Oldest::Needed
+        } else {
+            Oldest::Deletable
+        }
+    }
+
+    /// The number for a log without room: 10 unless a delete would be refused
+    /// because the oldest record is needed.
+    fn why_full(&self, log: &[u64]) -> u64 {
+        match self.oldest(log) {
+            Oldest::Open => FULL_OPEN,
+            Oldest::Needed => FULL_DIRTY,
+            Oldest::Absent | Oldest::Bad | Oldest::Deletable => FULL,
+        }
+    }
+
+    /// Whether there is room for the records, and numbers. The oldest record is
+    /// looked at only where there is no room.
+    fn judge_records(&self, lent: &Lent, records: usize) -> Verdict {
         let after = self.tail + records as u64;
-        refuse_if(after > self.head + self.slots as u64, FULL)?;
+        if after > self.head + self.slots as u64 {
+            return Err(self.why_full(lent.log));
+        }
         refuse_if(after > NUMBER_END, WORN)
     }
 
@@ -530,12 +586,12 @@ impl State {
         refuse_if(!free, HELD)?;
         let adds = value != lent.working[word] && self.word_state(word) == CLEAN;
         let logs = adds && self.undo.len == UNDO_PLACES;
-        self.judge_records(logs as usize)
+        self.judge_records(lent, logs as usize)
     }
 
     fn judge_log(&self, lent: &Lent, waiting: usize) -> Verdict {
         self.judge(lent)?;
-        self.judge_records(waiting.min(1))?;
+        self.judge_records(lent, waiting.min(1))?;
         refuse_if(waiting == 0, NOTHING)
     }
 
@@ -545,7 +601,7 @@ impl State {
         let line = self.judge_line(line)?;
         let new = ulog_count(self.states[line]);
         let lacking = (self.redo.len + new).saturating_sub(REDO_PLACES);
-        self.judge_records(lacking)?;
+        self.judge_records(lent, lacking)?;
         Ok((line, lacking))
     }
 
@@ -561,24 +617,18 @@ impl State {
         let thread = thread as u8;
         let held = self.held_lines(thread);
         let ulog: usize = held.map(|line| ulog_count(self.states[line])).sum();
-        self.judge_records(self.undo.len + self.redo.len + ulog + 1)?;
+        self.judge_records(lent, self.undo.len + self.redo.len + ulog + 1)?;
         Ok(thread)
     }
 
     fn judge_delete(&self, lent: &Lent) -> Verdict {
         self.judge(lent)?;
-        refuse_if(self.head == self.tail, NOTHING)?;
-        let window = Window::new(self.head, self.slots);
-        let read = |index| Record::read(&lent.log[window.slot(index)], self.words);
-        let oldest = read(0).ok_or(DAMAGED)?;
-        if oldest.kind == Kind::Commit {
-            return Ok(());
+        match self.oldest(lent.log) {
+            Oldest::Absent => Err(NOTHING),
+            Oldest::Bad => Err(DAMAGED),
+            Oldest::Open | Oldest::Needed => Err(NEEDED),
+            Oldest::Deletable => Ok(()),
         }
-        refuse_if(self.dirty[oldest.word / 8], NEEDED)?;
-        let closes = |r: Record| r.kind == Kind::Commit && r.thread == oldest.thread;
-        let count = (self.tail - self.head) as usize;
-        let closed = (1..count).any(|index| read(index).is_some_and(closes));
-        refuse_if(!closed, NEEDED)
     }
 
     // Doing.

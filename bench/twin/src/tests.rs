@@ -1,4 +1,5 @@
-//! The paper's benches, its wrong ways, and the rules beside them.
+//! The paper's benches, its wrong ways, the examples of request [1], and the
+//! rules beside them.
 
 use crate::book::Book;
 use crate::lists::play;
@@ -141,10 +142,26 @@ impl Rig {
         [0, 1, 2].map(|i| self.log[1 + 3 * slot + i])
     }
 
+    /// Thread 0 begins and changes this word.
+    fn change(&mut self, word: u64, value: u64) {
+        self.done(0, |r| r.begin(0));
+        self.done(0, |r| r.store(0, word, value));
+    }
+
+    /// An open transaction changes this word, and its entry is logged.
+    fn record(&mut self, thread: u64, word: u64, value: u64) {
+        self.done(0, |r| r.store(thread, word, value));
+        self.done(3, Rig::log_undo);
+    }
+
     fn transaction(&mut self, value: u64) {
-        assert_eq!(self.begin(0), DONE);
-        assert_eq!(self.store(0, 0, value), DONE);
-        assert_eq!(self.commit(0), DONE);
+        self.change(0, value);
+        self.done(6, Rig::commit0);
+    }
+
+    /// Four transactions of two records: with 8 slots the log is full.
+    fn four(&mut self) {
+        (1..=4).for_each(|value| self.transaction(value));
     }
 }
 
@@ -240,15 +257,13 @@ fn p9_delete_needs_a_clean_line() {
 
 #[test]
 fn p10_full_log_and_second_pass() {
-    let mut rig = Rig::new();
-    (1..=4).for_each(|value| rig.transaction(value));
-    let mut full = rig;
-    full.begin(0);
-    full.store(0, 0, 5);
-    full.refuses(FULL, Rig::commit0);
+    let mut full = Rig::new();
+    full.four();
+    full.change(0, 5);
+    full.refuses(FULL_DIRTY, Rig::commit0);
 
     let mut rig = Rig::new();
-    (1..=4).for_each(|value| rig.transaction(value));
+    rig.four();
     rig.done(8, |r| r.write_home(0));
     rig.done(1, Rig::delete);
     rig.done(1, Rig::delete);
@@ -293,6 +308,137 @@ fn sizes_and_threads_at_their_limits() {
     rig.refuses(THREAD, |r| r.begin(8));
     rig.refuses(THREAD, |r| r.store(u64::MAX, 0, 1));
     rig.refuses(THREAD, |r| r.commit(8));
+}
+
+// The worked examples 1.1 to 1.10 of request [1]: why the log is full.
+
+#[test]
+fn v1_1_closed_and_dirty() {
+    let mut rig = Rig::new();
+    rig.four();
+    rig.change(0, 5);
+    rig.refuses(FULL_DIRTY, Rig::commit0);
+    rig.refuses(FULL_DIRTY, Rig::log_undo);
+    assert_eq!(rig.log[0], 0);
+    assert_eq!(rig.working, [5, 0, 0, 0, 0, 0, 0, 0]);
+}
+
+#[test]
+fn v1_2_oldest_may_be_deleted() {
+    let mut rig = Rig::sized(16, 8);
+    rig.four();
+    rig.done(8, |r| r.write_home(0));
+    rig.change(8, 5);
+    rig.refuses(FULL, Rig::commit0);
+    rig.done(1, Rig::delete);
+    rig.refuses(FULL, Rig::commit0);
+    rig.done(1, Rig::delete);
+    rig.done(6, Rig::commit0);
+    assert_eq!(rig.log[0], 2);
+    assert_eq!(rig.slot(0), [0, 5, 0x0100_0000_0000_0008]);
+    assert_eq!(rig.slot(1), [0, 0, 0x0300_0000_0000_0000]);
+}
+
+#[test]
+fn v1_3_open_though_dirty() {
+    let mut rig = Rig::sized(16, 8);
+    rig.done(0, |r| r.begin(0));
+    rig.record(0, 0, 1);
+    rig.done(0, |r| r.begin(1));
+    (8..15).for_each(|word| rig.record(1, word, 1));
+    rig.refuses(FULL_OPEN, |r| r.commit(1));
+    rig.done(0, |r| r.store(1, 15, 1));
+    rig.refuses(FULL_OPEN, Rig::log_undo);
+    rig.done(0, |r| r.store(0, 0, 2));
+    rig.refuses(FULL_OPEN, Rig::commit0);
+    assert_eq!(rig.log[0], 0);
+}
+
+#[test]
+fn v1_4_empty_log() {
+    let mut rig = Rig::begun();
+    (0..8).for_each(|word| rig.done(0, |r| r.store(0, word, 1)));
+    rig.refuses(FULL, Rig::commit0);
+    rig.done(3, Rig::log_undo);
+    rig.refuses(FULL_OPEN, Rig::commit0);
+    assert_eq!(rig.log[0], 0);
+}
+
+#[test]
+fn v1_5_commits_of_another_thread() {
+    let mut rig = Rig::sized(16, 8);
+    rig.done(0, |r| r.begin(0));
+    rig.record(0, 0, 1);
+    for value in 1..=4 {
+        rig.done(0, |r| r.begin(1));
+        rig.done(0, |r| r.store(1, 8, value));
+        if value < 4 {
+            rig.done(6, |r| r.commit(1));
+        }
+    }
+    rig.refuses(FULL_OPEN, |r| r.commit(1));
+}
+
+/// Recovered with this head; no record is there, since every torn bit is 1.
+fn near_the_end(head: u64) -> Rig {
+    let mut rig = Rig::blank(8, 8);
+    rig.log[0] = head;
+    (0..8).for_each(|slot| rig.log[3 + 3 * slot] = 1 << 58);
+    rig.recover(1);
+    rig
+}
+
+#[test]
+fn v1_6_full_before_worn() {
+    let mut rig = near_the_end(0xffff_ffff_fff8);
+    rig.four();
+    assert_eq!(rig.state.tail, 281_474_976_710_656);
+    rig.change(0, 5);
+    rig.refuses(FULL_DIRTY, Rig::commit0);
+    rig.refuses(FULL_DIRTY, Rig::log_undo);
+}
+
+#[test]
+fn v1_7_room_but_worn() {
+    let mut rig = near_the_end(0xffff_ffff_ffff);
+    rig.change(0, 5);
+    rig.refuses(WORN, Rig::commit0);
+    rig.done(3, Rig::log_undo);
+    rig.refuses(WORN, Rig::commit0);
+}
+
+#[test]
+fn v1_8_dirty_again() {
+    let mut rig = Rig::new();
+    rig.four();
+    rig.done(8, |r| r.write_home(0));
+    rig.change(0, 5);
+    rig.refuses(FULL_DIRTY, Rig::commit0);
+    rig.refuses(NEEDED, Rig::delete);
+}
+
+#[test]
+fn v1_9_oldest_is_bad() {
+    let mut rig = Rig::new();
+    rig.four();
+    rig.log[3] = 0;
+    rig.change(0, 5);
+    rig.refuses(FULL, Rig::commit0);
+    rig.refuses(DAMAGED, Rig::delete);
+}
+
+#[test]
+fn v1_10_bad_commit_is_none() {
+    let mut rig = Rig::new();
+    rig.transaction(1);
+    rig.done(0, |r| r.begin(0));
+    (0..6).for_each(|word| rig.record(0, word, 2));
+    rig.done(0, |r| r.store(0, 6, 2));
+    rig.refuses(FULL_DIRTY, Rig::log_undo);
+    rig.log[6] = 0x0700_0000_0000_0001;
+    rig.refuses(FULL_OPEN, Rig::log_undo);
+    rig.log[3] = 0x0108_0000_0000_0000;
+    rig.refuses(FULL, Rig::log_undo);
 }
 
 // Plausible, and wrong.
@@ -421,10 +567,10 @@ fn full_and_worn_need_a_record() {
     (0..8).for_each(|word| assert_eq!(rig.store(0, word, 1), DONE));
     (0..8).for_each(|_| rig.done(3, Rig::log_undo));
     rig.refuses(NOTHING, Rig::log_undo);
-    rig.refuses(FULL, Rig::commit0);
+    rig.refuses(FULL_OPEN, Rig::commit0);
     rig.done(0, |r| r.store(0, 0, 2));
     rig.done(0, |r| r.set_down(0));
-    rig.refuses(FULL, Rig::log_redo);
+    rig.refuses(FULL_OPEN, Rig::log_redo);
     rig.done(8, |r| r.write_home(0));
     let mut worn = Rig::blank(8, 8);
     worn.log[0] = NUMBER_END;
@@ -433,6 +579,53 @@ fn full_and_worn_need_a_record() {
     worn.refuses(NOTHING, Rig::log_undo);
     worn.done(0, |r| r.store(0, 0, 1));
     worn.refuses(WORN, Rig::log_undo);
+}
+
+#[test]
+fn every_logging_step_says_why_the_log_is_full() {
+    let mut rig = Rig::sized(64, 40);
+    rig.begin(0);
+    // 40 records; then words 0 to 31 have redo entries, 32 to 39 are ULog and
+    // 40 to 55 are Dirty.
+    (0..40).for_each(|word| assert_eq!(rig.store(0, word, 1), DONE));
+    (0..16).for_each(|_| rig.done(3, Rig::log_undo));
+    (0..40).for_each(|word| rig.done(0, |r| r.store(0, word, 2)));
+    (0..4).for_each(|line| rig.done(0, |r| r.set_down(line)));
+    (40..56).for_each(|word| rig.done(0, |r| r.store(0, word, 1)));
+    let all_refuse = |rig: &mut Rig, number| {
+        rig.refuses(number, |r| r.store(0, 56, 1));
+        rig.refuses(number, Rig::log_undo);
+        rig.refuses(number, Rig::log_redo);
+        rig.refuses(number, |r| r.set_down(4));
+        rig.refuses(number, Rig::commit0);
+    };
+    all_refuse(&mut rig, FULL_OPEN);
+    rig.refuses(NEEDED, Rig::delete);
+    rig.refuses(PENDING, |r| r.set_down(5));
+    // The youngest record becomes a commit of thread 0.
+    rig.log[118..].copy_from_slice(&[0, 0, LAST]);
+    all_refuse(&mut rig, FULL_DIRTY);
+    rig.refuses(NEEDED, Rig::delete);
+    rig.log[3] ^= 1 << 63;
+    all_refuse(&mut rig, FULL);
+    rig.refuses(DAMAGED, Rig::delete);
+    rig.log[3] ^= 1 << 63;
+    rig.done(8, |r| r.write_home(0));
+    all_refuse(&mut rig, FULL);
+    rig.done(1, Rig::delete);
+    rig.done(3, Rig::log_undo);
+    rig.refuses(FULL, Rig::log_undo);
+}
+
+#[test]
+fn commit_as_oldest_needs_no_later_one() {
+    let mut rig = Rig::begun();
+    rig.done(3, Rig::commit0);
+    rig.done(0, |r| r.begin(0));
+    (0..7).for_each(|word| rig.record(0, word, 1));
+    rig.refuses(FULL, Rig::commit0);
+    rig.done(1, Rig::delete);
+    rig.done(3, Rig::commit0);
 }
 
 #[test]
@@ -586,7 +779,7 @@ fn seventeenth_dirty_word_logs_the_oldest() {
     assert_eq!(rig.slot(0), [0, 1, UNDO_REDO]);
     assert_eq!(rig.state.word_state(0), URLOG);
     assert_eq!(rig.state.undo.entries().len(), 16);
-    rig.refuses(FULL, Rig::commit0);
+    rig.refuses(FULL_OPEN, Rig::commit0);
     rig.cuts(2, |r| r.store(0, 18, 1));
     rig.recover(2);
 }
@@ -668,7 +861,7 @@ fn cut_write_home_stores_its_first_words() {
 #[test]
 fn recovery_reads_a_full_log() {
     let mut rig = Rig::sized(8, 9);
-    (1..=4).for_each(|value| rig.transaction(value));
+    rig.four();
     rig.begin(2);
     rig.store(2, 1, 6);
     rig.done(3, Rig::log_undo);

@@ -29,7 +29,7 @@ use Rattle.model.specs.Steps.{lineWrites, prepareRecords, prepareNext, c
 use Rattle.model.specs.Step.{Step, begin, store, logUndo, logRedo, evict, writeBack, commit, deleteOldest}
 use Rattle.model.specs.Step.{recover, takesState, firstRows, ownRows, taken, workOf, planOf, stepped, appended}
 use Rattle.model.specs.Book.{Book, entered, noted}
-use Rattle.model.specs.Plan.{inHome, inLog, append, writeHome, setHead, Plan, planned, carriedOut}
+use Rattle.model.specs.Plan.{inHome, inLog, append, writeHome, setHead, appendsIn, Plan, planned, carriedOut}
 use Rattle.model.proofs.Core.{Live, Ready, width-limits, Kept, live, dark, kept, CoreOf, Safe, Appends, core-safe}
 use Rattle.model.proofs.Rows.{None, room, oldest-room, IsRefusal, Refusals, Guarded, refusedAs, allowed, guard, Room}
 use Rattle.model.proofs.Rows.{own-refusals, first-refusals}
@@ -39,7 +39,7 @@ use Rattle.model.proofs.LineSteps.{evict-step, writeBack-safe, writeBac
 use Rattle.model.proofs.Committing.{commit-step}
 use Rattle.model.proofs.Deleting.{delete-step, begin-step}
 use Rattle.model.proofs.Lists.{every-right}
-use Rattle.model.proofs.Performing.{appendsIn, puts-append, puts-home, puts-head, appendsIn-records, appendsIn-home}
+use Rattle.model.proofs.Performing.{puts-append, puts-home, puts-head, appendsIn-records, appendsIn-home}
 use Rattle.model.proofs.Performing.{all-puts, written-home, written-log, cleared}
 use Rattle.model.proofs.Plans.{Does, Well, refuses, performs, well-ready}
 

@@ -3,6 +3,7 @@ pub mod Scenarios
 pub mod Lists
 pub mod LastTo
 pub mod Records
+pub mod ClosedRecords
 pub mod Lines
 pub mod Entries
 pub mod FirstNumbers
@@ -17,6 +18,7 @@ pub mod Rows
 pub mod Performing
 pub mod Plans
 pub mod Outcomes
+pub mod FullLog
 pub mod Fit
 pub mod EachStep
 pub mod Recovering

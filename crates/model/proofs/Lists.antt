@@ -94,6 +94,10 @@ halves {a} {b} h = (both-left a b h, both-right a b h)
 pub neither : {a b : Bool} → (a || b) ≡ false → (a ≡ false) × (b ≡ false)
 neither {a} {b} = or-eq-false-eq-eq-false-and-eq-false a b .0
 
+pub both-false : (a : Bool) → (a && false) ≡ false
+both-false true = refl
+both-false false = refl
+
 pub either-false : (a b : Bool) → (a && b) ≡ false → (a ≡ false) ⊎ (b ≡ false)
 either-false true b e = inr e
 either-false false b e = inl refl

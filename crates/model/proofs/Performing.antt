@@ -14,15 +14,8 @@ use Rattle.log.specs.Region.{recordStores, recordsStores, headStores}
 use Rattle.log.proofs.Stored.{stored-none, stored-append, take-append}
 use Rattle.log.proofs.Appending.{records-none, records-one, records-append}
 use Rattle.model.specs.Machine.{Machine, Memory, lostMachine}
-use Rattle.model.specs.Plan.{Op, append, writeHome, setHead, Put, inHome, inLog, putsOf, homePart, logPart, written, performed}
+use Rattle.model.specs.Plan.{Op, append, writeHome, setHead, Put, inHome, inLog, putsOf, homePart, logPart, appendsIn, written, performed}
 use Rattle.model.proofs.Lists.{take-map}
-
--- how many records are appended
-unfoldable pub appendsIn : List Op → ℕ
-appendsIn [] = 0
-appendsIn (append r ∷ ops) = suc (appendsIn ops)
-appendsIn (writeHome s ∷ ops) = appendsIn ops
-appendsIn (setHead k ∷ ops) = appendsIn ops
 
 -- the stores of operations, then others
 pub puts-then : (l n : ℕ) (ops more : List Op) → putsOf l n (ops ++ more) ≡ putsOf l n ops ++ putsOf l (n + appendsIn ops) more

@@ -10,10 +10,10 @@ use lib.Seq.{take-all}
 use Rattle.log.specs.Region.{slotsOf, slotsFor}
 use Rattle.log.proofs.Stored.{take-append, length-stored}
 use Rattle.model.specs.Machine.{Machine, Memory}
-use Rattle.model.specs.Plan.{Op, Put, putsOf, logPart, Plan, refused, planned, Outcome, written, performed, carriedOut, preceded, andThen}
+use Rattle.model.specs.Plan.{Op, Put, putsOf, logPart, appendsIn, Plan, refused, planned, Outcome, written, performed, carriedOut, preceded, andThen}
 use Rattle.model.specs.Book.{Book}
 use Rattle.model.proofs.Core.{Kept, Live, Ready, live, dark}
-use Rattle.model.proofs.Performing.{appendsIn, puts-then, appendsIn-then, written-then, cleared, performed-all, performed-cut}
+use Rattle.model.proofs.Performing.{puts-then, appendsIn-then, written-then, cleared, performed-all, performed-cut}
 
 -- What the stores ps of a plan do: after fewer than all of them a power cut is safe, and after all the machine is live.
 pub record Does (l : ℕ) (mem : Memory) (ps : List Put) (next : Machine) (working : List ℕ) (before book : Book) : Type 0 where

@@ -1,11 +1,12 @@
 -- Rows of refusals: the number of the first that applies, where none applies, and what it means that there is room.
-use Prim.Native.Nat.{ℕ, _+_, _≤_, _<_}
+use Prim.Native.Nat.{ℕ, _+_, _-_, _≤_, _<_}
 use mathlib.Core.Path.{_≡_, refl, sym, ap}
 use mathlib.Core.Bool.{Bool, true, false, cond, _&&_}
 use mathlib.Core.List.{List, [], _∷_, _++_}
 use mathlib.Core.Logic.{⊎-elim}
+use native.Mathlib.Decide.{decLt}
 use native.Mathlib.Omega.{arith}
-use borrow.Author.Tests.{ltb-true, ltb-false, le-ltb}
+use borrow.Author.Tests.{ltb-true, ltb-false, lt-ltb, le-ltb}
 use lib.Dec.{ltb}
 use lib.ListN.{length}
 use Rattle.log.specs.declared.Record.{Record}
@@ -18,7 +19,7 @@ use Rattle.model.specs.Lists.{isEmpty}
 use Rattle.model.specs.Machine.{Machine, Memory, freeSlots}
 use Rattle.model.specs.Plan.{Plan, refused, done, cut}
 use Rattle.model.specs.Verdict.{verdict}
-use Rattle.model.specs.Refusals.{nothing, Row, row, unless, numberOf, noRoom}
+use Rattle.model.specs.Refusals.{exhausted, nothing, Row, row, unless, numberOf, whyFull, noRoom}
 use Rattle.model.specs.Steps.{undoRecords, redoRecords, oldestRows, verdictRows}
 use Rattle.model.specs.Step.{Step, begin, store, logUndo, logRedo, evict, writeBack, commit, deleteOldest, recover, firstRows, ownRows}
 use Rattle.model.proofs.Lists.{both-left, both-right, every-left, either-false}
@@ -132,15 +133,40 @@ pub oldest-room : (m : Machine) (mem : Memory) (records : List Record) → None 
 oldest-room m mem records none =
     room m mem (length records) (every-left (λ (r : Row). r .applies ≡ false) (noRoom m mem (length records)) (row (isEmpty records) nothing ∷ []) none)
 
+-- The number of these rows: of a full log, by the verdict on the oldest record; of the numbers left; or none.
+pub number-full : (m : Machine) (mem : Memory) (n : ℕ) → freeSlots m < n → numberOf (noRoom m mem n) ≡ whyFull (verdict m mem)
+unfolding numberOf noRoom
+number-full m mem n few = rw (lt-ltb (freeSlots m) n few)
+
+pub number-worn : (m : Machine) (mem : Memory) (n : ℕ) → n ≤ freeSlots m → numbers - m .span .tail < n → numberOf (noRoom m mem n) ≡ exhausted
+unfolding numberOf noRoom
+number-worn m mem n some few =
+    rw (le-ltb (freeSlots m) n some, lt-ltb 0 n (omega arith), lt-ltb numbers (m .span .tail + n) (omega arith))
+
+pub number-none : (m : Machine) (mem : Memory) (n : ℕ) → n ≤ freeSlots m → n ≤ numbers - m .span .tail → numberOf (noRoom m mem n) ≡ 0
+unfolding numberOf noRoom
+number-none m mem n some enough =
+    elim (decLt 0 n) [
+      | yes p ↦ rw (le-ltb (freeSlots m) n some, lt-ltb 0 n p, le-ltb numbers (m .span .tail + n) (omega arith))
+      | no q ↦ rw (le-ltb (freeSlots m) n some, le-ltb 0 n (omega arith))
+    ]
+
 -- a step that logs nothing has room
 pub no-records : (m : Machine) (mem : Memory) → None (noRoom m mem 0)
 unfolding noRoom
 no-records m mem = (le-ltb (freeSlots m) 0 (omega arith), (refl, tt))
 
 -- the rows of every step are refusals
+full-refusals : (v : Verdict) → (ltb done (whyFull v) && ltb (whyFull v) cut) ≡ true
+full-refusals Nothing = refl
+full-refusals Damaged = refl
+full-refusals Open = refl
+full-refusals Needed = refl
+full-refusals Spare = refl
+
 pub room-refusals : (m : Machine) (mem : Memory) (n : ℕ) → Refusals (noRoom m mem n)
 unfolding noRoom
-room-refusals m mem n = (refl, (refl, tt))
+room-refusals m mem n = (full-refusals (verdict m mem), (refl, tt))
 
 pub oldest-refusals : (m : Machine) (mem : Memory) (records : List Record) → Refusals (oldestRows m mem records)
 oldest-refusals m mem records = every-append IsRefusal (noRoom m mem _) _ (room-refusals m mem _) (refl, tt)

@@ -1,4 +1,4 @@
--- Document 01 as executable definitions, in the order of the paper.
+-- Document 01 as executable definitions, in the order of the paper, with the requests of document 02 that have landed.
 pub mod Lists
 pub mod Machine
 pub mod Consistent
@@ -9,6 +9,7 @@ pub mod Refusals
 pub mod Steps
 pub mod Recovery
 pub mod Step
+pub mod FullLog
 pub mod Book
 pub mod Run
 pub mod Scenarios

@@ -1,5 +1,5 @@
 -- What a step is about to do, its one list of stores, and how much of it the supply allows.
-use Prim.Native.Nat.{ℕ, _+_, _-_}
+use Prim.Native.Nat.{ℕ, suc, _+_, _-_}
 use mathlib.Core.Bool.{cond}
 use mathlib.Core.List.{List, [], _∷_, _++_, map}
 use lib.Dec.{leb}
@@ -37,6 +37,13 @@ unfoldable pub logPart : List Put → List Store
 logPart [] = []
 logPart (inHome s ∷ ps) = logPart ps
 logPart (inLog s ∷ ps) = s ∷ logPart ps
+
+-- how many records are appended
+unfoldable pub appendsIn : List Op → ℕ
+appendsIn [] = 0
+appendsIn (append r ∷ ops) = suc (appendsIn ops)
+appendsIn (writeHome s ∷ ops) = appendsIn ops
+appendsIn (setHead k ∷ ops) = appendsIn ops
 
 -- A step is refused under a number, or it is planned: its answer, what it writes, the state and working words after it.
 pub data Plan : Type 0 where

@@ -28,3 +28,8 @@ isCommit t (Commit s) = eqb s t
 -- "counts as closed if a commit of its thread comes later": t is the record's thread
 abbrev pub closed : ℕ → List Record → Bool
 closed t later = any (isCommit t) later
+
+-- a record read back is a commit of the thread; a bad one is none
+abbrev pub closes : ℕ → Reading → Bool
+closes t (Good r) = isCommit t r
+closes t Bad = false

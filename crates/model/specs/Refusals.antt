@@ -1,15 +1,18 @@
--- Document 01, "Refused": the numbers, and the tests that several steps share.
+-- Document 01, "Refused", and document 02: the numbers, and the tests that several steps share.
 use Prim.Native.Nat.{ℕ, _+_, _/_}
 use mathlib.Core.Bool.{Bool, cond, _&&_, _||_, not}
 use mathlib.Core.List.{List, [], _∷_}
 use lib.Dec.{eqb, ltb, leb}
 use lib.ListN.{length}
 use Rattle.log.specs.Region.{numbers, slotsOf}
+use Rattle.parts.specs.declared.Verdict.{Verdict}
+use Rattle.parts.specs.declared.Verdict.the-variants.{Nothing, Damaged, Open, Needed, Spare}
 use Rattle.parts.specs.States.{Dirty}
 use Rattle.model.specs.Lists.{any}
 use Rattle.model.specs.Machine.{Machine, Memory, freeSlots, isOpen, stateIn, wordsOf}
 use Rattle.model.specs.Consistent.{isWidth, consistent, consistentWith}
 use Rattle.model.specs.Plan.{Plan, refused}
+use Rattle.model.specs.Verdict.{verdict}
 
 -- the table's numbers; `lost` is its "dark", `inconsistent` its "unsound", `exhausted` its "worn"
 abbrev pub size : ℕ
@@ -57,6 +60,12 @@ damaged = 14
 abbrev pub needed : ℕ
 needed = 15
 
+abbrev pub fullOpen : ℕ
+fullOpen = 16
+
+abbrev pub fullNeeded : ℕ
+fullNeeded = 17
+
 -- a row of the table: when a step is refused, and under which number
 pub record Row : Type 0 where
   pub applies : Bool
@@ -65,7 +74,7 @@ pub record Row : Type 0 where
 abbrev pub row : Bool → ℕ → Row
 row t n = record { applies = t; number = n }
 
--- "The lowest number that applies is given": the rows stand in rising order
+-- "The lowest number that applies is given": the rows stand in rising order, 16 and 17 in 10's place
 unfoldable pub unless : List Row → Plan → Plan
 unless [] p = p
 unless (r ∷ rs) p = cond (r .applies) (refused (r .number)) (unless rs p)
@@ -119,7 +128,19 @@ notOpen m t = row (not (isOpen m t)) idle
 unfoldable pub isPending : Machine → ℕ → Bool
 isPending m i = any (λ w. eqb (stateIn (m .lines) w) Dirty) (wordsOf i)
 
+-- Document 02, [1]: a full log's number, by the verdict on its oldest record. "10 remains where the oldest record may be
+-- deleted or is bad, or there is none"; 16 where it "has no later commit of its thread"; 17 where "that commit exists and
+-- the line is dirty".
+abbrev pub whyFull : Verdict → ℕ
+whyFull Nothing = full
+whyFull Damaged = full
+whyFull Open = fullOpen
+whyFull Needed = fullNeeded
+whyFull Spare = full
+
 -- "the step's records outnumber the free slots", and "a record would get a number of 2^48 or more": the step logs n
 unfoldable pub noRoom : Machine → Memory → ℕ → List Row
 noRoom m mem n =
-    row (ltb (freeSlots m) n) full ∷ row (ltb 0 n && ltb numbers (m .span .tail + n)) exhausted ∷ []
+    row (ltb (freeSlots m) n) (whyFull (verdict m mem))
+    ∷ row (ltb 0 n && ltb numbers (m .span .tail + n)) exhausted
+    ∷ []

@@ -1,13 +1,13 @@
 -- Document 01, "Benches to try": P1 to P11 as a table, each with all that the paper says of it; then "Plausible, and
--- wrong", and edges of the supply, a delete and another thread's commit.
+-- wrong", edges of the supply, a delete and another thread's commit, and why a log is full (document 02).
 use Prim.Native.Nat.{ℕ, _+_, _-_, _*_, _^_}
 use mathlib.Core.Path.{_≡_}
 use mathlib.Core.Bool.{Bool, true, false, _&&_}
-use mathlib.Core.List.{List, [], _∷_, _++_}
+use mathlib.Core.List.{List, [], _∷_, _++_, map}
 use lib.Dec.{eqb}
 use lib.ListN.{getD, replicate}
 use Rattle.log.specs.Stores.{Store}
-use Rattle.model.specs.Lists.{all}
+use Rattle.model.specs.Lists.{all, upTo}
 use Rattle.model.specs.Machine.{lostMachine}
 use Rattle.model.specs.Step.{Step, begin, store, logUndo, evict, writeBack, commit, deleteOldest, recover}
 use Rattle.model.specs.Book.{openedBook}
@@ -164,11 +164,11 @@ p9 =
 abbrev pub fourTransactions : List Expected
 fourTransactions = transaction 1 ++ (transaction 2 ++ (transaction 3 ++ transaction 4))
 
--- "P10: storing 1, 2, 3, 4 in four transactions fills the log; a fifth storing 5: commit 10. Write home and two deletes
--- before the fifth: its headers are 0100000000000000 and 0300000000000000."
+-- "P10: storing 1, 2, 3, 4 in four transactions fills the log; a fifth storing 5: commit" 17 by document 02, [1]. "Write
+-- home and two deletes before the fifth: its headers are 0100000000000000 and 0300000000000000."
 abbrev pub p10 : List Scenario
 p10 =
-    fresh (fourTransactions ++ (does (begin 0) 0 0 ∷ does (store 0 0 5) 0 0 ∷ does (commit 0) 10 0 ∷ [])) (headIs 0
+    fresh (fourTransactions ++ (does (begin 0) 0 0 ∷ does (store 0 0 5) 0 0 ∷ does (commit 0) 17 0 ∷ [])) (headIs 0
     ∷ []) 0 5
     ∷ fresh
     (fourTransactions ++
@@ -220,8 +220,39 @@ edges =
     ∷ fresh (twoStores ++ (does (begin 1) 0 0 ∷ does (commit 1) 0 3 ∷ does recover 0 2 ∷ [])) (headIs 2 ∷ []) 0 0
     ∷ []
 
+-- a transaction of thread 0 in which all eight words are Dirty, and 0 again
+abbrev pub allDirty : List Expected
+allDirty =
+    does (begin 0) 0 0
+    ∷ (map (λ w. does (store 0 w 9) 0 0) (upTo 8) ++ map (λ w. does (store 0 w 0) 0 0) (upTo 8))
+
+-- head 2^48 − 9, and a log of zeros that is recovered, so that a ninth record from now on is the last
+abbrev pub nearTheEnd : List Expected → Scenario
+nearTheEnd steps =
+    record { head = 2 ^ 48 - 9; steps = recovered ∷ steps; log = headIs (2 ^ 48 - 9) ∷ []; home = 0; working = 0 }
+
+-- Document 02, [1], beside P10: of a commit of nine records there is no oldest one, then it is open; the oldest may be
+-- deleted; full and worn, the oldest may be deleted, is open, is needed
+abbrev pub fullLog : List Scenario
+fullLog =
+    fresh (allDirty ++ (does (commit 0) 10 0 ∷ does logUndo 0 3 ∷ does (commit 0) 16 0 ∷ [])) (headIs 0 ∷ []) 0 0
+    ∷ fresh
+    (fourTransactions ++
+    (does (writeBack 0) 0 8 ∷ does (begin 0) 0 0 ∷ does (commit 0) 10 0 ∷ does deleteOldest 0 1 ∷ does (commit 0) 0 3
+    ∷ []))
+    (headIs 1 ∷ [])
+    4
+    4
+    ∷ nearTheEnd (does (begin 0) 0 0 ∷ does (commit 0) 0 3 ∷ (allDirty ++ (does (commit 0) 10 0 ∷ [])))
+    ∷ nearTheEnd (allDirty ++ (does logUndo 0 3 ∷ does (store 0 0 9) 0 0 ∷ does (store 0 0 0) 0 0 ∷ does (commit 0) 16 0
+    ∷ []))
+    ∷ nearTheEnd (transaction 1 ++ (allDirty ++ (does (commit 0) 17 0 ∷ [])))
+    ∷ []
+
 abbrev pub scenarios : List Scenario
-scenarios = p1 ++ (p2 ++ (p3 ++ (p4 ++ (p5 ++ (p6 ++ (p7 ++ (p8 ++ (p9 ++ (p10 ++ (p11 ++ (plausible ++ edges)))))))))))
+scenarios =
+    p1 ++
+    (p2 ++ (p3 ++ (p4 ++ (p5 ++ (p6 ++ (p7 ++ (p8 ++ (p9 ++ (p10 ++ (p11 ++ (plausible ++ (edges ++ fullLog))))))))))))
 
 abbrev pub ScenariosClaim : Type 0
 ScenariosClaim = all passes scenarios ≡ true

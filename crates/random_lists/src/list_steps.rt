@@ -20,16 +20,16 @@ use machine::Answer;
 use machine::State;
 use state::CUT;
 
-// The digest of the lists so far, their steps, and how often each answer was given, 255 at 16
+// The digest of the lists so far, their steps, and how often each answer was given, 255 at 18
 pub struct Totals {
     pub digest: u64,
     pub steps: u64,
-    pub counts: [u64; 17],
+    pub counts: [u64; 19],
 }
 
 impl Totals {
     fn counted(mut self, answer: u64) -> Totals {
-        let at = (either(answer == CUT, 16, answer) % 17) as usize;
+        let at = (either(answer == CUT, 18, answer) % 19) as usize;
         self.counts[at] = sum(self.counts[at], 1);
         self
     }

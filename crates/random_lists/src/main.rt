@@ -31,7 +31,7 @@ fn main() {
     let mut totals = Totals {
         digest: 0,
         steps: 0,
-        counts: [0; 17],
+        counts: [0; 19],
     };
     let mut i = 0;
     while i < 36 {

@@ -24,13 +24,13 @@ fn answer(a: u64, n: u64) {
     print(b"\n");
 }
 
-pub(crate) fn answers(counts: [u64; 17]) {
+pub(crate) fn answers(counts: [u64; 19]) {
     let mut a = 0;
-    while a < 16 {
-        answer(a, counts[(a % 16) as usize]);
+    while a < 18 {
+        answer(a, counts[(a % 18) as usize]);
         a += 1;
     }
-    answer(255, counts[16]);
+    answer(255, counts[18]);
 }
 
 // "Then `lists 3600, steps M`."

@@ -2,5 +2,4 @@
 pub mod ReadOn
 pub mod Scanning
 pub mod TwoPasses
-pub mod OldestRecord
 pub mod RecoverStep

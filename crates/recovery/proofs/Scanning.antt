@@ -15,10 +15,10 @@ use Rattle.log.specs.declared.Reading.the-variants.{Good, Bad}
 use Rattle.log.specs.Region.{slotsOf, headOf, isWritten, readBack, readFrom, searched, tailOf}
 use Rattle.log.proofs.Searching.{search-ends, search-goes-on, read-none, read-last}
 use Rattle.model.specs.Lists.{any}
-use Rattle.model.specs.Readings.{isBad}
+use Rattle.model.specs.Readings.{isBad, closes}
+use Rattle.model.proofs.ClosedRecords.{closed-read, closed-none}
 use Rattle.model.proofs.Records.{any-append}
-use Rattle.recovery.specs.Recovering.{closes, commitNoted, Lasts, Scanned}
-use Rattle.recovery.proofs.ReadOn.{closed-read, closed-none}
+use Rattle.recovery.specs.Recovering.{commitNoted, Lasts, Scanned}
 
 -- eight numbers stay eight
 size-noted : (n : ℕ) (x : Reading) (last : List ℕ) → length last ≡ 8 → length (commitNoted n x last) ≡ 8

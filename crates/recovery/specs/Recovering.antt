@@ -17,18 +17,13 @@ use Rattle.log.specs.Region.{numbers, headOf, tailOf, readBack, readFrom, recor
 use Rattle.model.specs.Lists.{any}
 use Rattle.model.specs.Machine.{Memory}
 use Rattle.model.specs.Refusals.{Row, row, size, headTooHigh, wrongLengths}
-use Rattle.model.specs.Readings.{isBad, records, isCommit, closed}
+use Rattle.model.specs.Readings.{isBad, records, closed}
 use Rattle.recovery.specs.declared.reading.Found.{Found}
 use Rattle.recovery.specs.declared.passes.Effect.{Effect}
 
 -- the rows of a recovery before the log is read
 abbrev pub unreadableRows : Memory → List Row
 unreadableRows mem = row (wrongLengths mem) size ∷ row (ltb numbers (headOf (mem .log))) headTooHigh ∷ []
-
--- a record read back is a commit of the thread; a bad one is none
-abbrev pub closes : ℕ → Reading → Bool
-closes t (Good r) = isCommit t r
-closes t Bad = false
 
 -- a record read back that is not bad has a thread and a word of the machine
 abbrev pub ValidIf : ℕ → Reading → Type 0

@@ -54,7 +54,7 @@ pub const DONE: u64 = 0;
 
 pub const CUT: u64 = 255;
 
-// The refusals, by document 01's numbers. LOST is its "dark", INCONSISTENT its "unsound", EXHAUSTED its "worn".
+// The refusals, by the numbers of documents 01 and 02. LOST is "dark" there, INCONSISTENT "unsound", EXHAUSTED "worn".
 pub const SIZE: u64 = 1;
 
 pub const LOST: u64 = 2;
@@ -84,3 +84,9 @@ pub const HEAD: u64 = 13;
 pub const DAMAGED: u64 = 14;
 
 pub const NEEDED: u64 = 15;
+
+// A full log whose oldest record's transaction is open
+pub const FULL_OPEN: u64 = 16;
+
+// A full log whose oldest record is needed for its line's sake
+pub const FULL_NEEDED: u64 = 17;

@@ -68,15 +68,15 @@ commit-count us rs w hs ss s mem t r has most round e =
     )
 
 -- the rows after the common ones, by what the code tests
-pub commit-number : (b : Bool) (t k n : ℕ) (m : Model) (mem : Memory) → getD (m .opened) (t % 8) false ≡ b
-    → n ≡ numberOf (noRoom m mem k) → k ≡ length (commitRecords m mem t) → cond (ltb 7 t) 4 (cond (not b) 6 n) ≡ numberOf (commitRows m mem t)
+pub commit-number : (b : Bool) (t n : ℕ) (m : Model) (mem : Memory) → getD (m .opened) (t % 8) false ≡ b
+    → n ≡ numberOf (noRoom m mem (length (commitRecords m mem t))) → cond (ltb 7 t) 4 (cond (not b) 6 n) ≡ numberOf (commitRows m mem t)
 unfolding numberOf
-commit-number b t k n m mem opened last e =
+commit-number b t n m mem opened last =
     elim (decLt 7 t) [
       | yes p ↦ rw (lt-ltb 7 t p)
       | no q ↦
           let small : t % 8 ≡ t = omega arith in
-          rw (← e, last, rw small at opened)
+          rw (last, rw small at opened)
     ]
 
 -- the state after a commit, by what the code sets: the lengths of the buffers, and the lines

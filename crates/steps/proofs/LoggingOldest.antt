@@ -79,11 +79,6 @@ some-oldest : (records : List Record) → isEmpty records ≡ false → 1 ≤ le
 some-oldest [] e = absurd (false≢true (sym e))
 some-oldest (r ∷ records) e = omega arith
 
--- where the common rows refuse nothing, head and tail are those of the log
-pub in-log : (m : Model) (mem : Memory) → numberOf (common m mem) ≡ 0
-    → (m .span .head ≤ m .span .tail) × ((m .span .tail ≤ m .span .head + m .sizes .slots) × (m .span .tail ≤ numbers))
-in-log m mem sound = let d = common-fit m mem sound .clauses in (d .order, (d .span, d .tail))
-
 -- What is known once such a step is not refused: it appends the record, and so on.
 pub record Known (step : Step) (m : Model) (mem : Memory) (places n : ℕ) (records : List Record) (next : Model) : Type 0 where
   pub appends : AppendWay step m mem records next (mem .working)

@@ -2,16 +2,9 @@
 use Prim.Native.Nat.{ℕ}
 use mathlib.Core.Path.{_≡_}
 use mathlib.Core.List.{List}
-use Rattle.model.specs.Machine.{Machine as Model}
 use Rattle.state.specs.declared.Machine.{Machine}
 
 -- Arrays taken out of a state: the holders and the states of its lines.
 pub record TakenOut (holders states : List ℕ) (s : Machine) : Type 0 where
   pub isHolders : holders ≡ s .lines .holders
   pub isStates : states ≡ s .lines .states
-
--- The log of a state: l slots, head h and tail n.
-pub record LogOf (l h n : ℕ) (m : Model) : Type 0 where
-  pub slots : m .sizes .slots ≡ l
-  pub head : m .span .head ≡ h
-  pub tail : m .span .tail ≡ n

@@ -7,15 +7,14 @@ ghost use Prim.Native.Nat.{ℕ, _+_, _%_, _≤_, _<_};
 ghost use lib.ListN.{length, getD};
 ghost use Rattle.log.specs.Region.{numbers};
 ghost use Rattle.model.specs.Machine.{Machine as Model, Memory};
-ghost use Rattle.model.specs.Refusals.{numberOf, common as commonRows};
+ghost use Rattle.model.specs.Refusals.{numberOf, common as commonRows, noRoom};
 ghost use Rattle.model.specs.Steps.{commitRecords, commitRows};
 ghost use Rattle.model.specs.Step.{commit, stepped};
 ghost use Rattle.state.specs.View.{view, memory, shown};
 ghost use Rattle.state.specs.HandedBack.{HandedBack};
 ghost use Rattle.steps.specs.Committing.{HasEntries, Allowed};
-ghost use Rattle.steps.specs.LentParts.{TakenOut, LogOf};
+ghost use Rattle.steps.specs.LentParts.{TakenOut};
 use crate::refusals::is_open;
-use crate::refusals::no_room;
 use crate::refusals::refuse;
 use buffers::append_redos;
 use buffers::append_undos;
@@ -25,6 +24,7 @@ use lines::count_newest;
 use lines::release_holders;
 use lines::release_states;
 use log::Record;
+use oldest::no_room;
 use state::DONE;
 use state::IDLE;
 use state::Machine;
@@ -51,19 +51,14 @@ fn count_records<'a>(
     (undos + redos + newest + 1) as u64
 }
 
-// The rows of a commit after the common ones. `opened` says whether the thread has an open transaction; the commit logs
-// `count` records.
-fn commit_refusal(opened: bool, slots: u16, head: u64, tail: u64, thread: u64, count: u64) -> u64
-    requires { ⌜ (head ≤ tail) × ((tail ≤ head + slots) × ((tail ≤ numbers) × (count ≤ 2048))) ⌝ }
+// The rows of a commit after the common ones. `opened` says whether the thread has an open transaction; `room` is the
+// number for lack of room.
+fn commit_refusal(opened: bool, thread: u64, room: u64) -> u64
     ensures { λ r. ⌜ ((m : Model) (mem : Memory) → getD (m .opened) (thread % 8) false ≡ opened
-        → LogOf slots head tail m
-        → count ≡ length (commitRecords m mem thread) → r ≡ numberOf (commitRows m mem thread)) ⌝ }
+        → room ≡ numberOf (noRoom m mem (length (commitRecords m mem thread)))
+        → r ≡ numberOf (commitRows m mem thread)) ⌝ }
 {
-    refuse(
-        7 < thread,
-        THREAD,
-        refuse(!opened, IDLE, no_room(slots, head, tail, count)),
-    )
+    refuse(7 < thread, THREAD, refuse(!opened, IDLE, room))
 }
 
 // A commit that no row refuses and that logs `count` records: done or cut.
@@ -165,7 +160,8 @@ pub(crate) fn committed<'a>(
     let opened = state.opened;
     let count = count_records(undos, redos, state.words, holders, states, thread);
     let open = is_open(&opened, thread);
-    let number = commit_refusal(open, state.slots, state.head, state.tail, thread, count);
+    let room = no_room(state, log, count);
+    let number = commit_refusal(open, thread, room);
     if number != 0 {
         return refused(number, supply, state);
     }

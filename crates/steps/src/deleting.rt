@@ -5,8 +5,9 @@ ghost use Rattle.model.specs.Step.{deleteOldest, stepped};
 ghost use Rattle.model.specs.Steps.{verdictRows};
 ghost use Rattle.state.specs.View.{view, memory, shown};
 ghost use Rattle.state.specs.HandedBack.{HandedBack};
+use oldest::oldest_record;
+use oldest::verdict_by;
 use parts::Verdict;
-use recovery::oldest_verdict;
 use state::DAMAGED;
 use state::DONE;
 use state::Machine;
@@ -44,7 +45,8 @@ pub(crate) fn deleted(
     ensures { λ (r : Outcome). ⌜ HandedBack state r ⌝ }
 {
     let dirty = state.lines.dirty;
-    let number = refusal(oldest_verdict(state.head, state.tail, state.words, &dirty, log));
+    let oldest = oldest_record(state.head, state.tail, state.words, log);
+    let number = refusal(verdict_by(oldest, state.words, &dirty));
     if number != 0 {
         return refused(number, supply, state);
     }

@@ -8,7 +8,6 @@ ghost use Rattle.model.specs.Refusals.{numberOf, common as commonRows};
 ghost use Rattle.model.specs.Step.{evict, stepped};
 ghost use Rattle.state.specs.View.{view, memory, shown};
 ghost use Rattle.state.specs.HandedBack.{HandedBack};
-use crate::refusals::no_room;
 use crate::writing_back::line_refusal;
 use buffers::append_redos;
 use buffers::refill_keys;
@@ -18,6 +17,7 @@ use lines::count_ulog;
 use lines::holder_at;
 use lines::put_states;
 use lines::states_at;
+use oldest::no_room;
 use state::DONE;
 use state::Machine;
 use state::Outcome;
@@ -51,7 +51,7 @@ pub(crate) fn evicted(
     ensures { λ (r : Outcome). ⌜ HandedBack state r ⌝ }
 {
     let count = lacking(state.redos.len, &state.lines.states, line);
-    let room = no_room(state.slots, state.head, state.tail, count as u64);
+    let room = no_room(state, log, count as u64);
     let number = line_refusal(state.words, &state.lines.states, line, room);
     if number != 0 {
         return refused(number, supply, state);

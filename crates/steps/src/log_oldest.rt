@@ -1,23 +1,21 @@
 // "Log undo: the oldest undo+redo entry is logged", "Log redo: the oldest redo entry is logged".
 ghost use mathlib.Core.Path.{_≡_};
 ghost use mathlib.Core.List.{List};
-ghost use Prim.Native.Nat.{_+_, _≤_, min};
+ghost use Prim.Native.Nat.{min};
 ghost use lib.ListN.{length};
 ghost use Rattle.log.specs.declared.Record.{Record};
-ghost use Rattle.log.specs.Region.{numbers};
-ghost use Rattle.model.specs.Machine.{Machine as Model, Memory};
+ghost use Rattle.model.specs.Machine.{Memory};
 ghost use Rattle.model.specs.Refusals.{numberOf, common as commonRows};
 ghost use Rattle.model.specs.Steps.{oldestRows};
 ghost use Rattle.model.specs.Step.{logUndo, logRedo, stepped};
 ghost use Rattle.state.specs.View.{view, memory, shown};
 ghost use Rattle.state.specs.HandedBack.{HandedBack};
-ghost use Rattle.steps.specs.LentParts.{LogOf};
-use crate::refusals::no_room;
 use buffers::RedoBuffer;
 use buffers::UndoBuffer;
 use buffers::append_redos;
 use buffers::append_undos;
 use buffers::mark_logged;
+use oldest::no_room;
 use state::DONE;
 use state::Machine;
 use state::NOTHING;
@@ -26,16 +24,15 @@ use state::cut;
 use state::refused;
 
 // The number under which the oldest entry of a buffer of `len` entries is not logged, or 0.
-fn refusal(len: usize, slots: u16, head: u64, tail: u64) -> u64
-    requires { ⌜ (head ≤ tail) × ((tail ≤ head + slots) × (tail ≤ numbers)) ⌝ }
-    ensures { λ r. ⌜ ((m : Model) (mem : Memory) (records : List Record) → LogOf slots head tail m → length records
+fn refusal(state: Machine, len: usize, log: &[u64]) -> u64
+    ensures { λ r. ⌜ ((mem : Memory) (records : List Record) → mem .log ≡ now (log .entry) → length records
         ≡ min 1 len
-        → r ≡ numberOf (oldestRows m mem records)) ⌝ }
+        → r ≡ numberOf (oldestRows (view state) mem records)) ⌝ }
 {
     if len == 0 {
         return NOTHING;
     }
-    no_room(slots, head, tail, 1)
+    no_room(state, log, 1)
 }
 
 // The step log undo, of a state that the common rows do not refuse.
@@ -51,7 +48,7 @@ pub(crate) fn undo_logged(
         ≡ stepped logUndo supply (view state) (memory (now (home .entry)) (now (working .entry)) (now (log .entry))) ⌝ }
     ensures { λ (r : Outcome). ⌜ HandedBack state r ⌝ }
 {
-    let number = refusal(state.undos.len, state.slots, state.head, state.tail);
+    let number = refusal(state, state.undos.len, log);
     if number != 0 {
         return refused(number, supply, state);
     }
@@ -95,7 +92,7 @@ pub(crate) fn redo_logged(
         ≡ stepped logRedo supply (view state) (memory (now (home .entry)) (now (working .entry)) (now (log .entry))) ⌝ }
     ensures { λ (r : Outcome). ⌜ HandedBack state r ⌝ }
 {
-    let number = refusal(state.redos.len, state.slots, state.head, state.tail);
+    let number = refusal(state, state.redos.len, log);
     if number != 0 {
         return refused(number, supply, state);
     }

@@ -1,17 +1,12 @@
 // The table of refusals: rows in rising order, and those that several steps share.
 ghost use mathlib.Core.Path.{_≡_};
 ghost use mathlib.Core.Bool.{cond, false};
-ghost use Prim.Native.Nat.{_+_, _%_, _≤_};
+ghost use Prim.Native.Nat.{_%_};
 ghost use lib.ListN.{getD};
-ghost use Rattle.log.specs.Region.{numbers};
-ghost use Rattle.model.specs.Machine.{Machine as Model, Memory};
+ghost use Rattle.model.specs.Machine.{Machine as Model};
 ghost use Rattle.model.specs.Consistent.{consistent};
-ghost use Rattle.model.specs.Refusals.{numberOf, noRoom, wrongSize, common as commonRows};
+ghost use Rattle.model.specs.Refusals.{numberOf, wrongSize, common as commonRows};
 ghost use Rattle.state.specs.View.{memory};
-ghost use Rattle.steps.specs.LentParts.{LogOf};
-use log::NUMBERS;
-use state::EXHAUSTED;
-use state::FULL;
 use state::INCONSISTENT;
 use state::LOST;
 use state::SIZE;
@@ -71,17 +66,4 @@ pub(crate) fn is_open(opened: &[bool; 8], thread: u64) -> bool
     ensures { λ r. ⌜ r ≡ getD (now (opened .entry)) (thread % 8) false ⌝ }
 {
     opened[(thread % 8) as usize]
-}
-
-// The rows of a step that logs `count` records; head and tail are those of a log of so many slots.
-pub(crate) fn no_room(slots: u16, head: u64, tail: u64, count: u64) -> u64
-    requires { ⌜ (head ≤ tail) × ((tail ≤ head + slots) × ((tail ≤ numbers) × (count ≤ 2048))) ⌝ }
-    ensures { λ r. ⌜ ((m : Model) (mem : Memory) → LogOf slots head tail m → r ≡ numberOf (noRoom m mem count)) ⌝ }
-{
-    let free = slots as u64 - (tail - head);
-    refuse(
-        free < count,
-        FULL,
-        refuse((0 < count) & (NUMBERS < tail + count), EXHAUSTED, 0),
-    )
 }

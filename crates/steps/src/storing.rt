@@ -1,23 +1,22 @@
 // "Store t, word, value": the line is claimed, and another value is stored by the word's state.
 ghost use mathlib.Core.Path.{_≡_};
 ghost use mathlib.Core.Bool.{_&&_, not};
-ghost use mathlib.Core.List.{[], _∷_};
-ghost use Prim.Native.Nat.{ℕ, _+_, _/_, _%_, _≤_, _<_};
+ghost use mathlib.Core.List.{List, [], _∷_};
+ghost use Prim.Native.Nat.{ℕ, _/_, _%_, _≤_, _<_};
 ghost use lib.Dec.{eqb};
 ghost use lib.ListN.{getD};
 ghost use Rattle.log.specs.Region.{numbers};
 ghost use Rattle.parts.specs.FreeLine.{nobody};
 ghost use Rattle.lines.specs.Lines.{firstLines};
 ghost use Rattle.model.specs.Machine.{Machine as Model, Memory, holderIn};
-ghost use Rattle.model.specs.Refusals.{numberOf, row, idle as idleNumber, held, noRoom};
+ghost use Rattle.model.specs.Refusals.{Row, numberOf, row, idle as idleNumber, held};
 ghost use Rattle.model.specs.Refusals.{common as commonRows, unknownThread, unknownWord};
 ghost use Rattle.model.specs.Step.{store, stepped};
 ghost use Rattle.model.specs.Steps.{storeLogs, storeNext};
 ghost use Rattle.state.specs.View.{view, memory, shown};
 ghost use Rattle.state.specs.HandedBack.{HandedBack};
-ghost use Rattle.steps.specs.LentParts.{TakenOut, LogOf};
+ghost use Rattle.steps.specs.LentParts.{TakenOut};
 use crate::refusals::is_open;
-use crate::refusals::no_room;
 use crate::refusals::refuse;
 use buffers::RedoBuffer;
 use buffers::UndoBuffer;
@@ -38,6 +37,7 @@ use lines::mark;
 use lines::put_flag;
 use lines::put_holder;
 use lines::state_of;
+use oldest::no_room;
 use parts::Entry;
 use state::DONE;
 use state::HELD;
@@ -135,17 +135,12 @@ fn place_refusal(words: u16, thread: u64, word: u64) -> u64
     refuse(7 < thread, THREAD, refuse(words as u64 <= word, PLACE, 0))
 }
 
-// The number under which a store of a known thread to a known word is refused, or 0; it logs `count` records.
-fn store_refusal(idle: bool, taken: bool, count: usize, slots: u16, head: u64, tail: u64) -> u64
-    requires { ⌜ (head ≤ tail) × ((tail ≤ head + slots) × ((tail ≤ numbers) × (count ≤ 1))) ⌝ }
-    ensures { λ r. ⌜ ((m : Model) (mem : Memory) → LogOf slots head tail m
-        → r ≡ numberOf (row idle idleNumber ∷ row taken held ∷ noRoom m mem count)) ⌝ }
+// The number under which a store of a known thread to a known word is refused, or 0; `room` is that for lack of room.
+fn store_refusal(idle: bool, taken: bool, room: u64) -> u64
+    ensures { λ r. ⌜ ((rows : List Row) → room ≡ numberOf rows
+        → r ≡ numberOf (row idle idleNumber ∷ row taken held ∷ rows)) ⌝ }
 {
-    refuse(
-        idle,
-        IDLE,
-        refuse(taken, HELD, no_room(slots, head, tail, count as u64)),
-    )
+    refuse(idle, IDLE, refuse(taken, HELD, room))
 }
 
 // What a store is to do: for which thread, to which word, and the value.
@@ -192,7 +187,8 @@ pub(crate) fn stored<'a>(
     let taken = held_by_another(holders, thread, entry.word);
     let same = value == entry.undo;
     let count = logs_first(states, state.undos.len, entry.word, same);
-    let own = store_refusal(idle, taken, count, state.slots, state.head, state.tail);
+    let room = no_room(state, log, count as u64);
+    let own = store_refusal(idle, taken, room);
     if own != 0 {
         return refused(own, supply, state);
     }

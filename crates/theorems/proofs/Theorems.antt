@@ -1,7 +1,9 @@
 -- What a user can rely on, a theorem each: its statement stands in specs/ of the crate that its `use` names.
 use Rattle.model.specs.Scenarios.{ScenariosClaim}
 use Rattle.model.specs.Run.{WholeListClaim, RecoverableClaim}
+use Rattle.model.specs.FullLog.{FullLogClaim}
 use Rattle.model.proofs.Scenarios as table
+use Rattle.model.proofs.FullLog as full
 use Rattle.model.proofs.WholeList as list
 use Rattle.runner.specs.Claim.{CodeClaim, HandedBackClaim}
 use Rattle.runner.proofs.Claim as code
@@ -24,6 +26,11 @@ each-recovery = code.code-claim
 pub handed-back : HandedBackClaim
 handed-back = code.handed-back
 
--- P1 to P11 of document 01, "Plausible, and wrong", and some edges come out as it says.
+-- A step is answered 10, 16 or 17 exactly where document 01 answers 10, the number follows from the verdict on the oldest
+-- record, and it is 10 exactly where a delete isn't answered 15.
+pub why-full : FullLogClaim
+why-full = full.full-log
+
+-- P1 to P11 of document 01, "Plausible, and wrong", some edges and full logs come out as the papers say.
 pub worked-scenarios : ScenariosClaim
 worked-scenarios = table.scenarios-pass

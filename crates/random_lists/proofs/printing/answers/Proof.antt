@@ -8,7 +8,7 @@ abbrev Inv-loop : tie.InvT-loop
 Inv-loop counts a₀ a = 0 ≤ a
 
 abbrev μ-loop : tie.MeasureT-loop
-μ-loop counts a₀ a = 16 - a
+μ-loop counts a₀ a = 18 - a
 
 pub answers-spec : {M : Type 1} → statement M
 answers-spec =

@@ -7,6 +7,8 @@ use Rattle.model.specs.Machine.{Memory}
 use Rattle.model.specs.Refusals.{numberOf}
 use Rattle.model.specs.Steps.{deleteRows, verdictRows}
 use Rattle.model.specs.Step.{deleteOldest}
+use Rattle.oldest.specs.OldestIn.{verdictBy}
+use Rattle.oldest.proofs.OldestRecord.{verdict-in}
 use Rattle.state.specs.declared.Machine.{Machine}
 use Rattle.state.specs.View.{view, memory}
 use Rattle.steps.proofs.Outcome.{common-fit, refused-way}
@@ -16,7 +18,7 @@ use Rattle.steps.proofs.deleting.deleted.Tie as tie
 
 -- the beginning, before the verdict
 abbrev start : tie.After-refusal → tie.Start
-start c = c .before .before .before .before .before .before .before .before
+start c = c .before .before .before .before .before .before .before .before .before
 
 -- the state and the buffers
 abbrev taken : tie.Start → Machine
@@ -30,7 +32,10 @@ number : (c : tie.After-refusal) → c .refusal .result ≡ numberOf (deleteRows
 number c =
     let s = start c in
     c .refusal .ensures
-    ∙ ap (λ (v : Verdict). numberOf (verdictRows v)) (c .before .oldest-verdict .ensures (taken s) (lent s) refl refl refl refl refl)
+    ∙ ap (λ (v : Verdict). numberOf (verdictRows v))
+    (c .before .verdict-by .ensures (taken s) refl refl
+    ∙ ap (verdictBy (view (taken s))) (c .before .before .before .oldest-record .ensures)
+    ∙ verdict-in (view (taken s)) (lent s))
 
 -- no row applies where the delete goes on
 none : (c : tie.Else1) → numberOf (deleteRows (view (taken (start (c .before)))) (lent (start (c .before)))) ≡ 0
@@ -69,6 +74,7 @@ returns-3 c =
 pub deleted-spec : {M : Type 1} → statement M
 deleted-spec =
     tie.close
-    (tie.spec (λ c κs. search needs) (λ c κs. search needs) (λ c κs. search needs) (λ c. search needs) returns
+    (tie.spec (λ c κs. search needs) (λ c κs. search needs) (λ c κs. search needs) (λ c κs. search needs)
+    (λ c. search needs) returns
     add-head (λ c κs. search needs) (λ c κs. search needs) (λ c. search needs) (λ c. search needs) returns-2
     (λ c. search needs) returns-3)

@@ -46,7 +46,7 @@ abbrev start : tie.After-lacking → tie.Start
 start c = c .before .before .before .before .before .before
 
 abbrev counted : tie.After-line-refusal → tie.After-lacking
-counted c = c .before .before .before .before
+counted c = c .before .before .before .before .before
 
 -- the number that was found is that of the step's rows
 number : (c : tie.After-line-refusal)
@@ -58,7 +58,7 @@ number c =
     let room = c .before .before .before .no-room in
     evict-number (s .args .line) (s .args .t1) (lent s) (count .result) (room .result) (c .line-refusal .result) (s .pre)
     (count .ensures .1) (count .ensures .0)
-    (room .ensures (view (s .args .t1)) (lent s) (record { slots = refl; head = refl; tail = refl })) (c .line-refusal .ensures)
+    (room .ensures (lent s) refl) (c .line-refusal .ensures)
 
 -- it is not refused
 module _ (c : tie.Else1) where
@@ -86,12 +86,6 @@ module _ (c : tie.Else1) where
       let below = passed .below in
       let narrow = passed .narrow in
       omega arith
-
-no-room-requires : tie.Need-no-room-requires
-no-room-requires c κs =
-    let f = fits (start c) in
-    let h = few (start c) in
-    (f .clauses .order, (f .clauses .span, (f .clauses .tail, omega (arith, c .lacking .ensures .0))))
 
 returns : tie.Need-returns
 returns c =
@@ -194,8 +188,8 @@ returns-3 c =
 pub evicted-spec : {M : Type 1} → statement M
 evicted-spec =
     tie.close
-    (tie.spec (λ c κs. few (c .before .before .before .before .before)) no-room-requires (λ c κs. search needs)
-    (λ c κs. search needs) returns (λ c κs. search needs) mul-if2 (λ c κs. search needs) (λ c. search needs)
+    (tie.spec (λ c κs. few (c .before .before .before .before .before)) (λ c κs. search needs) (λ c κs. search needs)
+    (λ c κs. search needs) (λ c. search needs) returns (λ c κs. search needs) mul-if2 (λ c κs. search needs) (λ c. search needs)
     (λ c. search needs) returns-2 (λ c κs. search needs) (λ c κs. search needs) (λ c κs. search needs)
     (λ c κs. search needs) sub-state (λ c κs. search needs) add-state (λ c κs. search needs) add-state-2
     (λ c. search needs) returns-3)

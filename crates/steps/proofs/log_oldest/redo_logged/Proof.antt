@@ -18,7 +18,7 @@ use Rattle.state.specs.declared.Machine.{Machine}
 use Rattle.state.specs.View.{view, memory}
 use Rattle.steps.proofs.Outcome.{refused-way, withParts}
 use Rattle.steps.proofs.AppendWays.{append-done, append-cut}
-use Rattle.steps.proofs.LoggingOldest.{WholeRedos, oldest, count-oldest, redos-rest, in-log, Known, known}
+use Rattle.steps.proofs.LoggingOldest.{WholeRedos, oldest, count-oldest, redos-rest, Known, known}
 use Rattle.steps.proofs.log_oldest.redo_logged.Statement.{statement}
 use Rattle.steps.proofs.log_oldest.redo_logged.Tie as tie
 
@@ -28,7 +28,7 @@ records s = oldest redoRecord (s .redos .len) (redoAt (s .redos))
 
 -- where the step began, with the lent buffers, and where it was not refused
 abbrev start : tie.After-refusal → tie.Start
-start c = c .before .before .before .before
+start c = c .before .before .before .before .before
 
 abbrev lent : tie.Start → Memory
 lent c = memory (c .args .home .now) (c .args .working .now) (c .args .log .now)
@@ -44,7 +44,7 @@ whole-redos c = search needs
 number : (c : tie.After-refusal) → let s = start c .args .t1 in c .refusal .result ≡ numberOf (oldestRows (view s) (lent (start c)) (records s))
 number c =
     let s = start c .args .t1 in
-    c .refusal .ensures (view s) (lent (start c)) (records s) (record { slots = refl; head = refl; tail = refl })
+    c .refusal .ensures (lent (start c)) (records s) refl
     (count-oldest redoRecord (s .redos .len) (redoAt (s .redos)))
 
 -- what is known once it is not refused
@@ -57,11 +57,6 @@ passed-known c =
     known logRedo redoRecord 32 (b .len) (redoAt b) (view (s .args .t1)) (lent s) (redosLogged 1 (view (s .args .t1))) (λ d. omega (arith, d .redoSize))
     (s .pre) none
     (record { first = s .pre; own = none; work = refl })
-
-refusal-requires : tie.Need-refusal-requires
-refusal-requires c κs =
-    let s = c .before .before .before in
-    in-log (view (s .args .t1)) (lent s) (s .pre)
 
 returns : tie.Need-returns
 returns c =
@@ -115,6 +110,6 @@ returns-3 c =
 pub redo-logged-spec : {M : Type 1} → statement M
 redo-logged-spec =
     tie.close
-    (tie.spec refusal-requires (λ c κs. search needs) returns (λ c κs. search needs) (λ c κs. search needs)
+    (tie.spec (λ c κs. search needs) (λ c κs. search needs) (λ c. search needs) returns (λ c κs. search needs) (λ c κs. search needs)
     (λ c. search needs) (λ c. search needs) returns-2 (λ c κs. search needs) (λ c κs. search needs) sub-state
     add-state (λ c. search needs) returns-3)

@@ -19,7 +19,7 @@ use Rattle.state.specs.declared.Machine.{Machine}
 use Rattle.state.specs.View.{view, memory}
 use Rattle.steps.proofs.Outcome.{refused-way}
 use Rattle.steps.proofs.AppendWays.{append-done, append-cut}
-use Rattle.steps.proofs.LoggingOldest.{WholeUndos, oldest, count-oldest, undosGone, undos-gone, undos-rest, in-log, Known, known}
+use Rattle.steps.proofs.LoggingOldest.{WholeUndos, oldest, count-oldest, undosGone, undos-gone, undos-rest, Known, known}
 use Rattle.steps.proofs.log_oldest.undo_logged.Statement.{statement}
 use Rattle.steps.proofs.log_oldest.undo_logged.Tie as tie
 
@@ -29,7 +29,7 @@ records s = oldest undoRedoRecord (s .undos .len) (undoAt (s .undos))
 
 -- where the step began, with the lent buffers, and where it was not refused
 abbrev start : tie.After-refusal → tie.Start
-start c = c .before .before .before .before
+start c = c .before .before .before .before .before
 
 abbrev lent : tie.Start → Memory
 lent c = memory (c .args .home .now) (c .args .working .now) (c .args .log .now)
@@ -48,7 +48,7 @@ whole-undos c = search needs
 number : (c : tie.After-refusal) → let s = start c .args .t1 in c .refusal .result ≡ numberOf (oldestRows (view s) (lent (start c)) (records s))
 number c =
     let s = start c .args .t1 in
-    c .refusal .ensures (view s) (lent (start c)) (records s) (record { slots = refl; head = refl; tail = refl })
+    c .refusal .ensures (lent (start c)) (records s) refl
     (count-oldest undoRedoRecord (s .undos .len) (undoAt (s .undos)))
 
 -- what is known once it is not refused
@@ -61,11 +61,6 @@ passed-known c =
     known logUndo undoRedoRecord 16 (b .len) (undoAt b) (view (s .args .t1)) (lent s) (undosLogged 1 (view (s .args .t1))) (λ d. omega (arith, d .undoSize))
     (s .pre) none
     (record { first = s .pre; own = none; work = refl })
-
-refusal-requires : tie.Need-refusal-requires
-refusal-requires c κs =
-    let s = c .before .before .before in
-    in-log (view (s .args .t1)) (lent s) (s .pre)
 
 returns : tie.Need-returns
 returns c =
@@ -131,6 +126,6 @@ returns-3 c =
 pub undo-logged-spec : {M : Type 1} → statement M
 undo-logged-spec =
     tie.close
-    (tie.spec refusal-requires (λ c κs. search needs) returns (λ c κs. search needs) (λ c κs. search needs)
+    (tie.spec (λ c κs. search needs) (λ c κs. search needs) (λ c. search needs) returns (λ c κs. search needs) (λ c κs. search needs)
     (λ c. search needs) (λ c. search needs) returns-2 (λ c κs. search needs) (λ c κs. search needs)
     (λ c κs. search needs) (λ c κs. search needs) sub-state add-state (λ c. search needs) returns-3)

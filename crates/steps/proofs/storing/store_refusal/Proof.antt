@@ -6,7 +6,7 @@ use Rattle.steps.proofs.storing.store_refusal.Tie as tie
 
 returns : tie.Need-returns
 unfolding numberOf
-returns c m mem log = simp (c .refuse2 .ensures, c .before .refuse .ensures, c .before .before .no-room .ensures m mem log)
+returns c rows room = simp (c .refuse2 .ensures, c .before .refuse .ensures, room)
 
 pub store-refusal-spec : {M : Type 1} → statement M
-store-refusal-spec = tie.close (tie.spec (λ c κs. search needs) (λ c κs. search needs) (λ c κs. search needs) returns)
+store-refusal-spec = tie.close (tie.spec (λ c κs. search needs) (λ c κs. search needs) returns)

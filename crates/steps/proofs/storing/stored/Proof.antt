@@ -9,7 +9,7 @@ use native.Mathlib.Omega.{arith}
 use lib.Dec.{eqb}
 use lib.ListN.{length, getD}
 use Rattle.model.specs.Machine.{Machine, Memory}
-use Rattle.model.specs.Refusals.{numberOf}
+use Rattle.model.specs.Refusals.{numberOf, noRoom}
 use Rattle.model.specs.Steps.{storeLogs, storeRecords, storeRows, undoRecords}
 use Rattle.model.specs.Step.{store}
 use Rattle.log.specs.Appended.{Appended}
@@ -57,25 +57,25 @@ module _ (c : tie.Else1) where
       known (start .args .state) (lent start) (start .args .target .thread) (start .args .target .word) (start .args .target .value) (start .pre .1)
       (c .before .place-refusal .result) (place-here (c .before)) (c .if1 .left)
 
-cast-t24 : tie.Need-cast-t24
-cast-t24 c =
+cast-t25 : tie.Need-cast-t25
+cast-t25 c =
     let thread = known-here c .thread in
     omega arith
 
-cast-t25 : tie.Need-cast-t25
-cast-t25 c =
+cast-t26 : tie.Need-cast-t26
+cast-t26 c =
     let word = known-here c .word in
     let most = known-here c .width .most in
     omega arith
 
-mul-if4 : tie.Need-mul-if4
-mul-if4 c =
+mul-no-room : tie.Need-mul-no-room
+mul-no-room c =
     let word = known-here c .word in
     let most = known-here c .width .most in
     omega arith
 
-slice-read-if4 : tie.Need-slice-read-if4
-slice-read-if4 c =
+slice-read-no-room : tie.Need-slice-read-no-room
+slice-read-no-room c =
     let word = known-here (c .before) .word in
     let length = known-here (c .before) .fits .working in
     omega arith
@@ -117,32 +117,30 @@ module _ (c : tie.After-logs-first) where
       let count = count-here in
       omega arith
 
-store-refusal-requires : tie.Need-store-refusal-requires
-store-refusal-requires c κs =
-    let clauses = known-here (passed c) .fits .clauses in
-    let few = count-few c in
-    (clauses .order, (clauses .span, (clauses .tail, few)))
-
 -- the late rows decide then
 module _ (c : tie.After-store-refusal) where
+  abbrev logs : tie.After-logs-first
+  logs = c .before .before .before
+
   abbrev begun : tie.Start
-  begun = start (passed (c .before))
+  begun = start (passed logs)
 
   late-here : c .store-refusal .result
       ≡ numberOf (storeRows (view (begun .args .state)) (lent begun) (begun .args .target .thread) (begun .args .target .word) (begun .args .target .value))
   late-here =
-      let here = passed (c .before) in
+      let here = passed logs in
       let a = begun .args in
       let k = known-here here in
       let word = k .word in
       let whole = k .width .whole in
-      let taken = c .before .before .before .held-by-another in
+      let taken = logs .before .before .held-by-another in
+      let room = c .before .no-room .ensures (lent begun) refl in
       late-number (a .state) (lent begun) (a .target .thread) (a .target .word) (a .target .value) (begun .pre .1) (here .before .place-refusal .result)
-      (place-here (here .before)) (here .if1 .left) (c .before .before .before .before .is-open .result) (taken .result)
-      (c .before .logs-first .result) (c .store-refusal .result)
-      (c .before .before .before .before .is-open .ensures) (count-here (c .before))
+      (place-here (here .before)) (here .if1 .left) (logs .before .before .before .is-open .result) (taken .result)
+      (logs .logs-first .result) (c .store-refusal .result)
+      (logs .before .before .before .is-open .ensures) (count-here logs)
       (taken .ensures (a .state .lines) (sym (begun .pre .0 .isHolders)) (a .state .words / 8) (omega arith))
-      (c .store-refusal .ensures (view (a .state)) (lent begun) (record { slots = refl; head = refl; tail = refl }))
+      (c .store-refusal .ensures (noRoom (view (a .state)) (lent begun) (logs .logs-first .result)) room)
 
 returns-2 : tie.Need-returns-2
 returns-2 c =
@@ -165,10 +163,10 @@ module _ (c : tie.Joined3) where
   entry = begun (late .before)
 
   abbrev count : tie.After-logs-first
-  count = late .before .before
+  count = logs (late .before)
 
   known-entry : Known (entry .args .state) (lent entry) (entry .args .target .thread) (entry .args .target .word) (entry .args .target .value)
-  known-entry = known-here (passed (late .before .before))
+  known-entry = known-here (passed count)
 
   appends : StoreAppends (entry .args .state) (lent entry) (entry .args .target .thread) (entry .args .target .word) (entry .args .target .value)
   appends =
@@ -195,8 +193,8 @@ module _ (c : tie.Joined3) where
       (logged-none (count .logs-first .result) (view (entry .args .state)) (entry .args .supply) (lent entry .log) (entry .args .state .tail) (w .0 .left)))
       (c .if3 .came))
 
-mul-if4-2 : tie.Need-mul-if4-2
-mul-if4-2 c =
+mul-if4 : tie.Need-mul-if4
+mul-if4 c =
     let few = count-few (count c) in
     omega arith
 
@@ -241,9 +239,9 @@ returns-4 c =
 pub stored-spec : {M : Type 1} → statement M
 stored-spec =
     tie.close
-    (tie.spec (λ c κs. search needs) (λ c κs. search needs) returns cast-t24 cast-t25 mul-if4 slice-read-if4
-    (λ c κs. search needs) held-by-another-requires logs-first-requires store-refusal-requires (λ c κs. search needs)
-    returns-2 (λ c κs. search needs) mul-if4-2 (λ c κs. search needs) (λ c. search needs)
+    (tie.spec (λ c κs. search needs) (λ c κs. search needs) returns cast-t25 cast-t26 mul-no-room slice-read-no-room
+    (λ c κs. search needs) held-by-another-requires logs-first-requires (λ c κs. search needs) (λ c κs. search needs)
+    (λ c κs. search needs) (λ c. search needs) returns-2 (λ c κs. search needs) mul-if4 (λ c κs. search needs) (λ c. search needs)
     (λ c. appended-length (logged (c .before .before .before .before .before))) returns-3 (λ c. search needs)
     slice-write-working next-state-requires (λ c. search needs) (λ c. appended-length (logged (c .before .before)))
     returns-4)

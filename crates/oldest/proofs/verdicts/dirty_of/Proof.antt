@@ -4,10 +4,10 @@ use mathlib.Core.Bool.{true, false}
 use borrow.Author.Tests.{ltb-true}
 use lib.Dec.{ltb}
 use Rattle.model.proofs.Lists.{both-right}
-use Rattle.recovery.proofs.OldestRecord.{word-flag}
+use Rattle.oldest.proofs.OldestRecord.{word-flag}
 use borrow.Author.Needs.{needs}
-use Rattle.recovery.proofs.verdicts.dirty_of.Statement.{statement}
-use Rattle.recovery.proofs.verdicts.dirty_of.Tie as tie
+use Rattle.oldest.proofs.verdicts.dirty_of.Statement.{statement}
+use Rattle.oldest.proofs.verdicts.dirty_of.Tie as tie
 
 shared-slice-read-result : tie.Need-shared-slice-read-result
 shared-slice-read-result c =

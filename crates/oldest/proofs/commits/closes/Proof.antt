@@ -1,8 +1,8 @@
 -- `commits::closes` meets its contract: only the arm of a commit compares threads.
 use borrow.Author.Needs.{needs}
-use Rattle.recovery.proofs.ReadOn.{commit-read}
-use Rattle.recovery.proofs.commits.closes.Statement.{statement}
-use Rattle.recovery.proofs.commits.closes.Tie as tie
+use Rattle.model.proofs.ClosedRecords.{commit-read}
+use Rattle.oldest.proofs.commits.closes.Statement.{statement}
+use Rattle.oldest.proofs.commits.closes.Tie as tie
 
 returns-3 : tie.Need-returns-3
 returns-3 c = commit-read _ _ _ _ (c .before .before .before .before .reading .given .1) (c .before .entry .given .1)

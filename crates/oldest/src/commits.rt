@@ -3,7 +3,7 @@ ghost use mathlib.Core.Path.{_≡_};
 ghost use Prim.Native.Nat.{_-_};
 ghost use Rattle.log.specs.Region.{readFrom};
 ghost use Rattle.model.specs.Readings.{records, closed};
-ghost use Rattle.recovery.specs.Recovering.{closes as closesThread};
+ghost use Rattle.model.specs.Readings.{closes as closesThread};
 use log::Reading;
 use log::Record;
 

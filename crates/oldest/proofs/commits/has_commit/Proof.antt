@@ -5,10 +5,10 @@ use native.Mathlib.Omega.{arith}
 use borrow.Author.Needs.{needs}
 use Rattle.log.specs.Region.{readFrom}
 use Rattle.model.specs.Readings.{records, closed}
-use Rattle.recovery.specs.Recovering.{closes as closesThread}
-use Rattle.recovery.proofs.ReadOn.{closed-here, closed-next, closed-none}
-use Rattle.recovery.proofs.commits.has_commit.Statement.{statement}
-use Rattle.recovery.proofs.commits.has_commit.Tie as tie
+use Rattle.model.specs.Readings.{closes as closesThread}
+use Rattle.model.proofs.ClosedRecords.{closed-here, closed-next, closed-none}
+use Rattle.oldest.proofs.commits.has_commit.Statement.{statement}
+use Rattle.oldest.proofs.commits.has_commit.Tie as tie
 
 abbrev Inv-loop : tie.InvT-loop
 Inv-loop log from to words thread number₀ number =

@@ -1,0 +1,2 @@
+-- What the functions on the oldest record compute.
+pub mod OldestIn

@@ -1,7 +1,7 @@
--- A full log refuses the steps to which document 01 answers 10, each under the number of the verdict on the oldest record.
+-- A full log refuses the steps to which document 01 answers 10, under the number of the verdict on its oldest record.
 use Prim.Native.Nat.{ℕ}
-use mathlib.Core.Path.{_≡_, refl, sym, ap, ap₂, _∙_}
-use mathlib.Core.Bool.{Bool, true, false, cond, _&&_, _||_, not, false≢true}
+use mathlib.Core.Path.{_≡_, refl, sym, ap₂, _∙_}
+use mathlib.Core.Bool.{Bool, true, false, _&&_, _||_, not, false≢true}
 use mathlib.Core.List.{List, [], _∷_, _++_}
 use native.Mathlib.Decide.{decLt}
 use native.Mathlib.Omega.{arith}
@@ -17,11 +17,10 @@ use Rattle.model.specs.Machine.{Machine, Memory, freeSlots}
 use Rattle.model.specs.Plan.{Put, done, cut, appendsIn, performed, carriedOut}
 use Rattle.model.specs.Verdict.{verdict}
 use Rattle.model.specs.Refusals.{full, fullOpen, fullNeeded, needed, Row, row, numberOf, common, whyFull, noRoom}
-use Rattle.model.specs.Steps.{verdictRows, storeRecords, undoRecords, redoRecords, evictRecords, commitRecords, lineWrites}
-use Rattle.model.specs.Recovery.{homeWrites}
+use Rattle.model.specs.Steps.{verdictRows}
 use Rattle.model.specs.Step.{begin, store, logUndo, logRedo, evict, writeBack, commit, deleteOldest, recover}
 use Rattle.model.specs.Step.{Step, firstRows, ownRows, workOf, planOf, stepped}
-use Rattle.model.specs.FullLog.{isFull, recordsIn, FullLog, FullLogClaim}
+use Rattle.model.specs.FullLog.{isFull, recordsIn, FullLogClaim}
 use Rattle.model.proofs.Lists.{both-false}
 use Rattle.model.proofs.Performing.{appendsIn-records, appendsIn-home, appendsIn-then}
 use Rattle.model.proofs.Rows.{None, IsRefusal, own-refusals, first-refusals, none-apply, number-then, unless-refused, unless-none}
@@ -67,6 +66,7 @@ answered k d e s c m mem =
           (work-answer k d e s c _ _ m mem)
     ]
 
+-- the row's number is below 10
 abbrev isLower : Row → Bool
 isLower r = ltb (r .number) full
 
@@ -83,8 +83,8 @@ other-number (r ∷ rows) others = pick (r .applies) refl (other-number rows (ot
     pick true e rest = rw (e, others .0)
     pick false e rest = rw (e, rest)
 
--- Of some rows that refuse a step which logs n records: 10, 16 and 17 exactly where no lower number applies and the slots are too few; which of
--- them, and that no common row applies then.
+-- Of the rows of a step that logs n records: they give 10, 16 or 17 exactly where no lower number applies and the slots
+-- are too few; it is then the number of the verdict, and no common row applies.
 record FullRows (m : Machine) (mem : Memory) (n : ℕ) (rows : List Row) : Type 0 where
   exact : isFull (numberOf rows) ≡ (eqb (numberOf (keep isLower rows)) 0 && ltb (freeSlots m) n)
   number : isFull (numberOf rows) ≡ true → numberOf rows ≡ whyFull (verdict m mem)
@@ -100,19 +100,19 @@ logs-none m mem rows others =
       passed = λ e. absurd (false≢true (sym never ∙ e));
     }
 
--- the number of a full log is one of the three
+-- the number of a full log is one of the three: not below 10, not done, not cut
 record IsWhy (k : ℕ) : Type 0 where
   is : isFull k ≡ true
   high : ltb k full ≡ false
   undone : eqb done k ≡ false
   uncut : eqb cut k ≡ false
 
-why-full : (v : Verdict) → IsWhy (whyFull v)
-why-full Nothing = record { is = refl; high = refl; undone = refl; uncut = refl }
-why-full Damaged = record { is = refl; high = refl; undone = refl; uncut = refl }
-why-full Open = record { is = refl; high = refl; undone = refl; uncut = refl }
-why-full Needed = record { is = refl; high = refl; undone = refl; uncut = refl }
-why-full Spare = record { is = refl; high = refl; undone = refl; uncut = refl }
+is-why : (v : Verdict) → IsWhy (whyFull v)
+is-why Nothing = record { is = refl; high = refl; undone = refl; uncut = refl }
+is-why Damaged = record { is = refl; high = refl; undone = refl; uncut = refl }
+is-why Open = record { is = refl; high = refl; undone = refl; uncut = refl }
+is-why Needed = record { is = refl; high = refl; undone = refl; uncut = refl }
+is-why Spare = record { is = refl; high = refl; undone = refl; uncut = refl }
 
 -- a row before that of a full log, and one after it
 abbrev Lower : Row → Type 0
@@ -121,11 +121,11 @@ Lower r = Other r × ((isLower r ≡ true) × (eqb (r .number) 0 ≡ false))
 abbrev Later : Row → Type 0
 Later r = Other r × (isLower r ≡ false)
 
-later-none : (ys : List Row) → Every Later ys → (keep isLower ys ≡ []) × Every Other ys
+later-rows : (ys : List Row) → Every Later ys → (keep isLower ys ≡ []) × Every Other ys
 unfolding keep
-later-none [] later = (refl, tt)
-later-none (y ∷ ys) later =
-    let rest = later-none ys (later .1) in
+later-rows [] later = (refl, tt)
+later-rows (y ∷ ys) later =
+    let rest = later-rows ys (later .1) in
     (rw (later .0 .1) (rest .0), (later .0 .0, rest .1))
 
 -- rows of lower numbers, then that of a full log, then later ones
@@ -144,9 +144,9 @@ module _ (few : Bool) (k : ℕ) (why : IsWhy k) (ys : List Row) (later : Every L
     where
       pick : (t : Bool) → few ≡ t → Placed []
       pick true e =
-          record { exact = rw (e, why .is, why .high, later-none ys later .0); number = λ f. rw e; before = λ f. tt }
+          record { exact = rw (e, why .is, why .high, later-rows ys later .0); number = λ f. rw e; before = λ f. tt }
       pick false e =
-          let never : isFull (numberOf (table [])) ≡ false = rw e (other-number ys (later-none ys later .1)) in
+          let never : isFull (numberOf (table [])) ≡ false = rw e (other-number ys (later-rows ys later .1)) in
           record {
             exact = never ∙ rw e (sym (both-false (eqb (numberOf (keep isLower (row false k ∷ ys))) 0)));
             number = λ f. absurd (false≢true (sym never ∙ f));
@@ -169,13 +169,13 @@ module _ (few : Bool) (k : ℕ) (why : IsWhy k) (ys : List Row) (later : Every L
             before = λ f. (e, rest .before (rw e at f));
           }
 
--- the rows of a step that logs n records: the common ones, others of lower numbers, those for lack of room, and later ones
+-- the rows of a step that logs n records: the common ones, others of lower numbers, those for lack of room, later ones
 logs-some : (m : Machine) (mem : Memory) (n : ℕ) (xs ys : List Row) → Every Lower xs → Every Later ys
     → FullRows m mem n (common m mem ++ (xs ++ (noRoom m mem n ++ ys)))
 unfolding noRoom
 logs-some m mem n xs ys lower later =
     let all : Every Lower (common m mem ++ xs) = ((refl, (refl, refl)), ((refl, (refl, refl)), ((refl, (refl, refl)), lower))) in
-    let at = placed (ltb (freeSlots m) n) (whyFull (verdict m mem)) (why-full (verdict m mem)) (_ ∷ ys) ((refl, refl), later) (common m mem ++ xs) all in
+    let at = placed (ltb (freeSlots m) n) (whyFull (verdict m mem)) (is-why (verdict m mem)) (_ ∷ ys) ((refl, refl), later) (common m mem ++ xs) all in
     record {
       exact = at .exact;
       number = at .number;
@@ -189,7 +189,7 @@ delete-other Open = (refl, tt)
 delete-other Needed = (refl, tt)
 delete-other Spare = tt
 
--- each step's
+-- the rows of each step are such rows
 full-rows : (s : Step) (m : Machine) (mem : Memory) → FullRows m mem (recordsIn (workOf s m mem)) (rowsOf s m mem)
 unfolding noRoom appendsIn
 full-rows (begin t) m mem = logs-none m mem _ (refl, (refl, (refl, (refl, tt))))
@@ -207,14 +207,14 @@ full-rows deleteOldest m mem = logs-none m mem _ (refl, (refl, (refl, delete-oth
 full-rows recover m mem =
     rw (appendsIn-then, appendsIn-home) (logs-none m mem _ (refl, (refl, (refl, tt))))
 
--- a full log has number 10 exactly where the verdict does not have a delete refused with 15
-delete-helps : (v : Verdict) → eqb (whyFull v) full ≡ not (eqb (numberOf (verdictRows v)) needed)
+-- a full log's number is 10 exactly where the verdict's rows don't refuse a delete with 15
+delete-unneeded : (v : Verdict) → eqb (whyFull v) full ≡ not (eqb (numberOf (verdictRows v)) needed)
 unfolding numberOf
-delete-helps Nothing = refl
-delete-helps Damaged = refl
-delete-helps Open = refl
-delete-helps Needed = refl
-delete-helps Spare = refl
+delete-unneeded Nothing = refl
+delete-unneeded Damaged = refl
+delete-unneeded Open = refl
+delete-unneeded Needed = refl
+delete-unneeded Spare = refl
 
 module _ (s : Step) (c : ℕ) (m : Machine) (mem : Memory) where
   -- what is answered is the number of the rows, as far as a full log goes
@@ -227,23 +227,23 @@ module _ (s : Step) (c : ℕ) (m : Machine) (mem : Memory) where
     answer-why : stepped s c m mem .answer ≡ whyFull (verdict m mem)
     answer-why =
         let k : ℕ = whyFull (verdict m mem) in
-        let why = why-full (verdict m mem) in
+        let why = is-why (verdict m mem) in
         eqb-true (stepped s c m mem .answer) k
         (answered k (why .undone) (why .uncut) s c m mem ∙ eq-eqb (numberOf (rowsOf s m mem)) k (full-rows s m mem .number (sym same ∙ is)))
 
-    answer-helped : eqb (stepped s c m mem .answer) full ≡ not (eqb (stepped deleteOldest c m mem .answer) needed)
-    answer-helped =
+    answer-unneeded : eqb (stepped s c m mem .answer) full ≡ not (eqb (stepped deleteOldest c m mem .answer) needed)
+    answer-unneeded =
         rw (
           answer-why,
           answered needed refl refl deleteOldest c m mem,
           number-then (common m mem) (verdictRows (verdict m mem)) (full-rows s m mem .passed (sym same ∙ is)),
         )
-        (delete-helps (verdict m mem))
+        (delete-unneeded (verdict m mem))
 
 pub full-log : FullLogClaim
 full-log s c m mem =
     record {
       exactly = same s c m mem ∙ full-rows s m mem .exact;
       why = answer-why s c m mem;
-      helped = answer-helped s c m mem;
+      unneeded = answer-unneeded s c m mem;
     }

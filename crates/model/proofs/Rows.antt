@@ -133,7 +133,8 @@ pub oldest-room : (m : Machine) (mem : Memory) (records : List Record) → None 
 oldest-room m mem records none =
     room m mem (length records) (every-left (λ (r : Row). r .applies ≡ false) (noRoom m mem (length records)) (row (isEmpty records) nothing ∷ []) none)
 
--- The number of these rows: of a full log, by the verdict on the oldest record; of the numbers left; or none.
+-- The number of these rows: by the verdict on the oldest record where there are too few slots, 11 where too few numbers
+-- are left, else none.
 pub number-full : (m : Machine) (mem : Memory) (n : ℕ) → freeSlots m < n → numberOf (noRoom m mem n) ≡ whyFull (verdict m mem)
 unfolding numberOf noRoom
 number-full m mem n few = rw (lt-ltb (freeSlots m) n few)

@@ -1,4 +1,4 @@
--- P1 to P11 of document 01 hold of the definitions: one claim over the table, computed by the checker.
+-- The scenarios hold of the definitions: one claim over the table, computed by the checker.
 use mathlib.Core.Path.{refl}
 use Rattle.log.specs.Stores.{stored}
 use Rattle.log.specs.Layout.{slotStores, decoded}

@@ -1,14 +1,14 @@
--- Document 02, [1]: which steps a full log refuses, under which number, and whether a delete helps.
+-- Document 02, [1]: which steps a full log refuses, under which number, and whether a delete is answered 15 then.
 use Prim.Native.Nat.{ℕ}
 use mathlib.Core.Path.{_≡_}
 use mathlib.Core.Bool.{Bool, true, _&&_, _||_, not}
-use mathlib.Core.List.{List, _++_}
+use mathlib.Core.List.{_++_}
 use lib.Dec.{eqb, ltb}
 use Rattle.model.specs.Lists.{keep}
 use Rattle.model.specs.Machine.{Machine, Memory, freeSlots}
 use Rattle.model.specs.Plan.{Plan, refused, planned, appendsIn}
 use Rattle.model.specs.Verdict.{verdict}
-use Rattle.model.specs.Refusals.{full, fullOpen, fullNeeded, needed, Row, numberOf, whyFull}
+use Rattle.model.specs.Refusals.{full, fullOpen, fullNeeded, needed, numberOf, whyFull}
 use Rattle.model.specs.Step.{Step, deleteOldest, firstRows, ownRows, workOf, stepped}
 
 -- the answers of a full log
@@ -32,7 +32,7 @@ pub record FullLog (s : Step) (c : ℕ) (m : Machine) (mem : Memory) : Type 0 wh
   -- which of them, by the verdict on the oldest record
   pub why : isFull (stepped s c m mem .answer) ≡ true → stepped s c m mem .answer ≡ whyFull (verdict m mem)
   -- 10 exactly where a delete isn't answered 15
-  pub helped : isFull (stepped s c m mem .answer) ≡ true → eqb (stepped s c m mem .answer) full
+  pub unneeded : isFull (stepped s c m mem .answer) ≡ true → eqb (stepped s c m mem .answer) full
       ≡ not (eqb (stepped deleteOldest c m mem .answer) needed)
 
 abbrev pub FullLogClaim : Type 0

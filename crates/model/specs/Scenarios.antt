@@ -164,8 +164,8 @@ p9 =
 abbrev pub fourTransactions : List Expected
 fourTransactions = transaction 1 ++ (transaction 2 ++ (transaction 3 ++ transaction 4))
 
--- "P10: storing 1, 2, 3, 4 in four transactions fills the log; a fifth storing 5: commit" 17 by document 02, [1]. "Write
--- home and two deletes before the fifth: its headers are 0100000000000000 and 0300000000000000."
+-- "P10: storing 1, 2, 3, 4 in four transactions fills the log; a fifth storing 5: commit" 17, by document 02, [1].
+-- "Write home and two deletes before the fifth: its headers are 0100000000000000 and 0300000000000000."
 abbrev pub p10 : List Scenario
 p10 =
     fresh (fourTransactions ++ (does (begin 0) 0 0 ∷ does (store 0 0 5) 0 0 ∷ does (commit 0) 17 0 ∷ [])) (headIs 0
@@ -220,7 +220,7 @@ edges =
     ∷ fresh (twoStores ++ (does (begin 1) 0 0 ∷ does (commit 1) 0 3 ∷ does recover 0 2 ∷ [])) (headIs 2 ∷ []) 0 0
     ∷ []
 
--- a transaction of thread 0 in which all eight words are Dirty, and 0 again
+-- a transaction of thread 0 in which all eight words are Dirty, their working values 0 again
 abbrev pub allDirty : List Expected
 allDirty =
     does (begin 0) 0 0
@@ -231,8 +231,8 @@ abbrev pub nearTheEnd : List Expected → Scenario
 nearTheEnd steps =
     record { head = 2 ^ 48 - 9; steps = recovered ∷ steps; log = headIs (2 ^ 48 - 9) ∷ []; home = 0; working = 0 }
 
--- Document 02, [1], beside P10: of a commit of nine records there is no oldest one, then it is open; the oldest may be
--- deleted; full and worn, the oldest may be deleted, is open, is needed
+-- Document 02, [1], beside P10. A commit of nine records: the log is empty, then its oldest record is open; the oldest
+-- may be deleted; full and worn, it may be deleted, is open, is needed
 abbrev pub fullLog : List Scenario
 fullLog =
     fresh (allDirty ++ (does (commit 0) 10 0 ∷ does logUndo 0 3 ∷ does (commit 0) 16 0 ∷ [])) (headIs 0 ∷ []) 0 0

@@ -8,7 +8,7 @@ use crate::commits::has_commit;
 use log::Reading;
 use log::Record;
 
-// Of a record of the thread for the word, `from` to `to` being the records after it.
+// Of a record of the thread for the word; those after it are the records from `from` up to `to`.
 fn data_record(log: &[u64], from: u64, to: u64, words: u16, thread: u8, word: u16) -> Oldest
     ensures { λ (r : Oldest). ⌜ r
         ≡ dataRecord thread word (readFrom (to - from) words (now (log .entry)) from) ⌝ }
@@ -19,7 +19,7 @@ fn data_record(log: &[u64], from: u64, to: u64, words: u16, thread: u8, word: u1
     Oldest::Uncommitted
 }
 
-// Of what was read of it.
+// Of the oldest record, by what was read of it.
 fn oldest_of(log: &[u64], from: u64, to: u64, words: u16, oldest: Reading) -> Oldest
     ensures { λ (r : Oldest). ⌜ r ≡ oldestOf oldest (readFrom (to - from) words (now (log .entry)) from) ⌝ }
 {

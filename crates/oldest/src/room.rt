@@ -34,8 +34,8 @@ fn difference(a: u64, b: u64) -> u64
     if b < a { a - b } else { 0 }
 }
 
-// The number under which a step that logs `count` records is refused for lack of room, or 0. The oldest record is looked
-// at only where the free slots are too few.
+// The number under which a step that logs `count` records is refused for lack of room, or 0. The oldest record is read
+// only where the free slots are too few.
 pub fn no_room(state: Machine, log: &[u64], count: u64) -> u64
     ensures { λ r. ⌜ ((mem : Memory) → mem .log ≡ now (log .entry)
         → r ≡ numberOf (noRoom (view state) mem count)) ⌝ }

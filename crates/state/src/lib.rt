@@ -85,8 +85,8 @@ pub const DAMAGED: u64 = 14;
 
 pub const NEEDED: u64 = 15;
 
-// A full log whose oldest record's transaction is open
+// A full log with no later commit of its oldest record's thread: the transaction is open
 pub const FULL_OPEN: u64 = 16;
 
-// A full log whose oldest record is needed for its line's sake
+// A full log whose oldest record is needed for its line's sake alone
 pub const FULL_NEEDED: u64 = 17;

@@ -6,7 +6,6 @@ use mathlib.Core.List.{List, [], _∷_, map}
 use native.Mathlib.Omega.{arith}
 use lib.ListN.{length, take, drop, length-map, length-take}
 use Rattle.log.specs.declared.Record.{Record}
-use Rattle.log.specs.Region.{numbers}
 use Rattle.parts.specs.declared.Entry.{Entry}
 use Rattle.buffers.specs.declared.RedoBuffer.{RedoBuffer}
 use Rattle.buffers.specs.declared.UndoBuffer.{UndoBuffer}

@@ -1,4 +1,4 @@
-// The table of refusals: rows in rising order, and those that several steps share.
+// The table of refusals: rows in rising order, 16 and 17 in 10's place, and those that several steps share.
 ghost use mathlib.Core.Path.{_≡_};
 ghost use mathlib.Core.Bool.{cond, false};
 ghost use Prim.Native.Nat.{_%_};

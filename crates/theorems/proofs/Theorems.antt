@@ -26,8 +26,8 @@ each-recovery = code.code-claim
 pub handed-back : HandedBackClaim
 handed-back = code.handed-back
 
--- A step is answered 10, 16 or 17 exactly where document 01 answers 10, the number follows from the verdict on the oldest
--- record, and it is 10 exactly where a delete isn't answered 15.
+-- A step is answered 10, 16 or 17 exactly where document 01 answers 10, the number follows from the verdict on the
+-- oldest record, and it is 10 exactly where a delete isn't answered 15.
 pub why-full : FullLogClaim
 why-full = full.full-log
 

@@ -128,10 +128,9 @@ notOpen m t = row (not (isOpen m t)) idle
 unfoldable pub isPending : Machine → ℕ → Bool
 isPending m i = any (λ w. eqb (stateIn (m .lines) w) Dirty) (wordsOf i)
 
--- Document 02, [1]. A log is full for a step whose records outnumber its free slots; its number, by the verdict on its
--- oldest record. "10 remains where the oldest record may
--- be deleted or is bad, or there is none"; 16 where it "has no later commit of its thread"; 17 where "that commit
--- exists and the line is dirty".
+-- Document 02, [1]. A log is full for a step whose records outnumber its free slots. Its number then, by the verdict on
+-- its oldest record: "10 remains where the oldest record may be deleted or is bad, or there is none"; 16 where it "has
+-- no later commit of its thread"; 17 where "that commit exists and the line is dirty".
 abbrev pub whyFull : Verdict → ℕ
 whyFull Nothing = full
 whyFull Damaged = full

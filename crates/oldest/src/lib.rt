@@ -1,5 +1,5 @@
-// The oldest record of the log: whether a delete may take it; and whether a step finds room in the log, and if not, why.
-// The search for a later commit is linear in the records.
+// The oldest record of the log: whether a delete may take it; and whether a step finds room in the log, and if not,
+// why. The search for a later commit is linear in the records.
 mod commits;
 mod in_log;
 mod room;

@@ -3,6 +3,9 @@
 pub mod bench;
 pub mod book;
 pub mod lists;
+pub mod reading;
+#[cfg(test)]
+mod reading_tests;
 pub mod run;
 pub mod store;
 #[cfg(test)]

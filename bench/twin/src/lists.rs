@@ -61,7 +61,7 @@ const LAST_LOG_CASE: u64 = 12;
 pub struct Rng(u64);
 
 impl Rng {
-    fn new(list: u64) -> Rng {
+    pub fn new(list: u64) -> Rng {
         let mut rng = Rng(GOLD.wrapping_add(list));
         for _ in 0..16 {
             rng.raw();
@@ -69,7 +69,7 @@ impl Rng {
         rng
     }
 
-    fn raw(&mut self) -> u64 {
+    pub fn raw(&mut self) -> u64 {
         self.0 ^= self.0 << 13;
         self.0 ^= self.0 >> 7;
         self.0 ^= self.0 << 17;

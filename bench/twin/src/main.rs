@@ -1,9 +1,12 @@
-//! The twin's program: digests, single lists and times.
+//! The twin's program: digests, single lists, times and readings.
 
 use std::collections::BTreeMap;
+use std::io::{stdin, stdout, Result};
+use std::process::exit;
 use twin::bench;
 use twin::book::Book;
 use twin::lists::*;
+use twin::reading;
 
 fn main() {
     let args: Vec<String> = std::env::args().skip(1).collect();
@@ -13,7 +16,17 @@ fn main() {
         ["debug"] => debug(),
         ["bench"] => bench::bench(),
         ["list", number] => list(number.parse().expect("a list number")),
-        _ => eprintln!("usage: twin digests | debug | list NUMBER | bench"),
+        ["readings"] => piped(reading::readings(stdin().lock(), stdout().lock())),
+        ["words"] => piped(reading::words(stdout().lock())),
+        _ => eprintln!("usage: twin digests | debug | list NUMBER | bench | readings | words"),
+    }
+}
+
+/// Says why standard input or output failed, if it did.
+fn piped(result: Result<()>) {
+    if let Err(error) = result {
+        eprintln!("{error}");
+        exit(1);
     }
 }
 

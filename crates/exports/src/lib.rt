@@ -1,4 +1,8 @@
-// The store for programs in other languages.
+// The store, and readings, for programs in other languages: include/rukwetid.h declares them for C.
+mod readings;
+
+pub use readings::rukwetid_reading;
+pub use readings::rukwetid_reading_word;
 ghost use mathlib.Core.Path.{_≡_};
 ghost use Rattle.model.specs.Machine.{lostMachine};
 ghost use Rattle.state.specs.View.{memory};

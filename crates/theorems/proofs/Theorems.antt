@@ -5,6 +5,10 @@ use Rattle.model.specs.FullLog.{FullLogClaim}
 use Rattle.model.proofs.Scenarios as table
 use Rattle.model.proofs.FullLog as full
 use Rattle.model.proofs.WholeList as list
+use Rattle.reading.specs.Claim.{ReadingClaim, StreamClaim}
+use Rattle.reading.specs.Examples.{ExamplesClaim}
+use Rattle.reading.proofs.Streams as stream
+use Rattle.reading.proofs.WayBack as reading
 use Rattle.runner.specs.Claim.{CodeClaim, HandedBackClaim}
 use Rattle.runner.proofs.Claim as code
 
@@ -34,3 +38,16 @@ why-full = full.full-log
 -- P1 to P11 of document 01, "Plausible, and wrong", some edges and full logs come out as the papers say.
 pub worked-scenarios : ScenariosClaim
 worked-scenarios = table.scenarios-pass
+
+-- A printed reading leads back to its word, and so no two words print alike; every other text is refused; a reading has
+-- 3 to 21 bytes.
+pub readings-lead-back : ReadingClaim
+readings-lead-back = reading.reading-claim
+
+-- A text of words, one to a line, may be read in any pieces: the readings printed are those of its lines.
+pub readings-in-pieces : StreamClaim
+readings-in-pieces = stream.stream-claim
+
+-- The worked examples of document 02, [2], and the largest count.
+pub worked-readings : ExamplesClaim
+worked-readings = reading.examples-print

@@ -1,0 +1,5 @@
+-- What the contracts cite.
+pub mod Decimal
+pub mod Lines
+pub mod Number
+pub mod Written

@@ -8,7 +8,7 @@ use native.Mathlib.Omega.{arith}
 use borrow.Author.Tests.{le-ltb, ltb-true}
 use lib.Dec.{T}
 use lib.IntN.{ℤ, pos, negsuc, negℤ, natAbs, _-ℤ_}
-use lib.Signed.{mag, mag-rem, ltZ, nonNeg, quotZ, remZ, natAbs-le}
+use lib.Signed.{mag, mag-rem, ltZ, nonNeg, quotZ, remZ}
 use mir.Syntax.{w64}
 use mir.Val.{Fits, SFits, toZ, ofZ}
 use mir.ValLaws.{toZ-pos, toZ-ofZ, sfits-le}
@@ -72,9 +72,6 @@ module _ (z : ℤ) (fits : SFits w64 z) where
 
     pub negative-magnitude : natAbs (toZ w64 (ofZ w64 (negsuc 0 -ℤ read))) + 1 ≡ natAbs z
     negative-magnitude = ap (λ (y : ℤ). natAbs y + 1) complement-read ∙ add-one (mag z) ∙ ap natAbs (sym is-negative)
-
-    pub negative-fits : Fits w64 (natAbs (toZ w64 (ofZ w64 (negsuc 0 -ℤ read))) + 1)
-    negative-fits = record { fits = rw negative-magnitude (omega (arith, natAbs-le z (fits .sfits))) }
 
   pub positive-read : ltZ read (pos 0) ≡ false → read ≡ pos (mag z)
   positive-read e = toZ-ofZ w64 z fits ∙ not-below-zero z (rw (toZ-ofZ w64 z fits) at e)

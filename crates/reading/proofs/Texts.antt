@@ -35,13 +35,21 @@ sign-length word h = elim (decLt word (2 ^ 63)) [
   | no q ↦ ap length (sign-high word (omega arith)) ∙ omega arith
 ]
 
-pub nat-abs-neg : (n : ℕ) → natAbs (negℤ (pos n)) ≡ n
+nat-abs-neg : (n : ℕ) → natAbs (negℤ (pos n)) ≡ n
 nat-abs-neg zero = refl
 nat-abs-neg (suc n) = refl
 
+-- the parts of a count are those of its magnitude: the division goes toward zero
+pub whole-is : (z : ℤ) → wholePart z ≡ natAbs z / 10
+whole-is (pos n) = refl
+whole-is (negsuc n) = nat-abs-neg (suc n / 10)
+
+pub tenth-is : (z : ℤ) → tenthPart z ≡ natAbs z % 10
+tenth-is (pos n) = refl
+tenth-is (negsuc n) = nat-abs-neg (suc n % 10)
+
 pub tenth-small : (z : ℤ) → tenthPart z < 10
-tenth-small (pos n) = omega arith
-tenth-small (negsuc n) = rw nat-abs-neg (omega arith)
+tenth-small z = rw (tenth-is z) (omega arith)
 
 pub text-length : (word : ℕ) → word < 2 ^ 64
     → length (textOf word) ≡ word / 2 ^ 63 + length (decimal (wholePart (signed word))) + 2

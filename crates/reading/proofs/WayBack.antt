@@ -23,7 +23,7 @@ use Rattle.reading.specs.Text.{signed, minus, point, signOf, wholePart, 
 use Rattle.reading.specs.Claim.{Printed, ReadingClaim}
 use Rattle.reading.specs.Examples.{bytesOf, allPrint, ExamplesClaim}
 use Rattle.reading.proofs.SameBytes.{same-refl, same-true}
-use Rattle.reading.proofs.Texts.{signed-low, signed-high, nat-abs-neg, tenth-small, text-longest, text-shortest}
+use Rattle.reading.proofs.Texts.{signed-low, signed-high, whole-is, tenth-is, tenth-small, text-longest, text-shortest}
 
 -- the digits of a count's text are those of its whole part, then that of its tenths
 sign-digits : (z : ℤ) → onlyDigits (signOf z) ≡ []
@@ -41,8 +41,7 @@ digits-of z = simp (only-append, sign-digits, only-decimal, last-digits (tenthPa
 
 -- and they give the count without its sign
 count-is : (z : ℤ) → 10 * wholePart z + tenthPart z ≡ natAbs z
-count-is (pos n) = omega arith
-count-is (negsuc n) = simp nat-abs-neg (omega arith)
+count-is z = rw (whole-is z, tenth-is z) (omega arith)
 
 count-read : (z : ℤ) → natAbs z < 2 ^ 64 → numberOf (onlyDigits (countText z)) ≡ Value (natAbs z)
 count-read z h =
@@ -102,7 +101,7 @@ module _ (text : List ℕ) where
       → (parsedBy n text ≡ noWord) ⊎ ((w : ℕ) × (w < 2 ^ 64) × (textOf w ≡ text) × (parsedBy n text ≡ accepted w))
   read-cases Blank e = inl refl
   read-cases Invalid e = inl refl
-  read-cases (Value v) e = pick (sameBytes (textOf word) text) (same-true (textOf word) text)
+  read-cases (Value v) e = pick _ (same-true (textOf word) text)
     where
       word : ℕ
       word = wordFor (hasMinus text) v

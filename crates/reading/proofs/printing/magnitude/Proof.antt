@@ -1,8 +1,10 @@
 -- `magnitude` meets its contract.
+use mathlib.Core.Path.{ap}
 use native.Mathlib.Omega.{arith}
 use borrow.Author.Needs.{needs}
+use lib.IntN.{natAbs}
 use lib.Signed.{mag}
-use Rattle.reading.proofs.Counts.{cast-pos, complement-fits, complement-read, negative-magnitude, negative-fits, positive-read}
+use Rattle.reading.proofs.Counts.{cast-pos, complement-fits, complement-read, negative-magnitude, positive-read}
 use Rattle.reading.proofs.printing.magnitude.Statement.{statement}
 use Rattle.reading.proofs.printing.magnitude.Tie as tie
 
@@ -16,7 +18,10 @@ cast-result c =
     cast-pos _ (mag z) (complement-read z f (c .if1 .taken)) (omega (arith, f .sfits))
 
 add-result : tie.Need-add-result
-add-result c = negative-fits (c .before .args .number) (c .before .fits .number) (c .if1 .taken)
+add-result c =
+    let z = c .before .args .number in
+    let f = c .before .fits .number in
+    omega (arith, ap natAbs (complement-read z f (c .if1 .taken)), f .sfits)
 
 returns : tie.Need-returns
 returns c = negative-magnitude (c .before .args .number) (c .before .fits .number) (c .if1 .taken)

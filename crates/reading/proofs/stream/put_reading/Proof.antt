@@ -5,7 +5,8 @@ use mathlib.Core.List.{List, [], _∷_, _++_}
 use native.Mathlib.Omega.{arith}
 use borrow.Author.Needs.{needs}
 use lib.Dec.{lit≤}
-use lib.ListN.{length, take, drop, set, replicate, length-append, length-drop, length-set}
+use lib.ListN.{length, take, drop, set, replicate, length-drop, length-set}
+use lib.Seq.{length-take-le}
 use Rattle.formats.specs.Lines.{lineFeed}
 use Rattle.formats.specs.Written.{filledWith}
 use Rattle.formats.proofs.Buffers.{one-set}
@@ -39,9 +40,7 @@ array-share-prefix-line c =
     simp length-set (omega (arith, c .before .print .kept .1 .0))
 
 slice-aggregate-put : tie.Need-slice-aggregate-put
-slice-aggregate-put c =
-    let d = c .before .before in
-    ap (λ (n : ℕ). n + 1) (printed d .size) ∙ sym (ap length (line-printed d) ∙ simp length-append)
+slice-aggregate-put c = sym (length-take-le _ _ (array-share-prefix-line (c .before)))
 
 returns : tie.Need-returns
 returns c =

@@ -4,6 +4,7 @@
 mod case;
 mod cases;
 mod peers;
+mod readings;
 mod sides;
 mod steps;
 mod table;
@@ -111,6 +112,7 @@ fn bench(folder: &Path) {
     }
     tables.iter().for_each(Table::print);
     print_peers(&tables, &peers);
+    readings::bench();
 }
 
 /// Runs one list of a case over and over, to be looked at by a profiler.
@@ -131,9 +133,10 @@ fn main() {
     match args[..] {
         ["bench", folder] => bench(Path::new(folder)),
         ["pass"] => pass(),
+        ["readings"] => readings::bench(),
         ["replay", side, list, name, head] => replay(side, list, name, head),
         _ => {
-            eprintln!("usage: compare bench FOLDER-OF-THE-PEERS | pass");
+            eprintln!("usage: compare bench FOLDER-OF-THE-PEERS | pass | readings");
             eprintln!("       compare replay twin|rattle before|whole ROW COLUMN");
         }
     }

@@ -66,7 +66,8 @@ pub number-next : (bytes : List ℕ) (byte : ℕ) → numberOf (bytes ++ (byte �
 unfolding allDigits valueFrom
 number-next [] byte = ap (λ (d : Bool). fitted d (withDigit 0 byte)) (and-true (isDigit byte))
 number-next (x ∷ xs) byte =
-    ap (λ (d : Bool). fitted d (valueOf ((x ∷ xs) ++ (byte ∷ [])))) (digits-append (x ∷ xs) (byte ∷ []) ∙ ap (λ (d : Bool). allDigits (x ∷ xs) && d) (and-true (isDigit byte)))
+    let digits = digits-append (x ∷ xs) (byte ∷ []) ∙ ap (λ (d : Bool). allDigits (x ∷ xs) && d) (and-true (isDigit byte)) in
+    ap (λ (d : Bool). fitted d (valueOf ((x ∷ xs) ++ (byte ∷ [])))) digits
     ∙ ap (fitted (allDigits (x ∷ xs) && isDigit byte)) (value-append 0 (x ∷ xs) (byte ∷ []))
     ∙ value-next (allDigits (x ∷ xs)) (valueOf (x ∷ xs)) byte
 
@@ -82,11 +83,15 @@ only-append (x ∷ xs) ys = pick (isDigit x) (only-append xs ys)
     pick false e = e
 
 pub digits-next : (bytes : List ℕ) (byte : ℕ)
-    → numberOf (onlyDigits (bytes ++ (byte ∷ []))) ≡ cond (isDigit byte) (withByte (numberOf (onlyDigits bytes)) byte) (numberOf (onlyDigits bytes))
+    → numberOf (onlyDigits (bytes ++ (byte ∷ [])))
+    ≡ cond (isDigit byte) (withByte (numberOf (onlyDigits bytes)) byte) (numberOf (onlyDigits bytes))
 unfolding onlyDigits
 digits-next bytes byte = ap numberOf (only-append bytes (byte ∷ [])) ∙ pick (isDigit byte)
   where
-    pick : (b : Bool) → numberOf (onlyDigits bytes ++ cond b (byte ∷ []) []) ≡ cond b (withByte (numberOf (onlyDigits bytes)) byte) (numberOf (onlyDigits bytes))
+    before : Number
+    before = numberOf (onlyDigits bytes)
+
+    pick : (b : Bool) → numberOf (onlyDigits bytes ++ cond b (byte ∷ []) []) ≡ cond b (withByte before byte) before
     pick true = number-next (onlyDigits bytes) byte
     pick false = ap numberOf (append-nil (onlyDigits bytes))
 

@@ -5,7 +5,8 @@ use crate::Written;
 
 // Puts a text at the start of the buffer, if it has room.
 pub fn put(text: &[u8], buffer: &mut [u8]) -> Written
-    ensures { λ (r : Written). ⌜ filled r (now (buffer .exit)) ≡ filledWith (now (text .entry)) (now (buffer .entry)) ⌝ }
+    ensures { λ (r : Written). ⌜ filled r (now (buffer .exit))
+        ≡ filledWith (now (text .entry)) (now (buffer .entry)) ⌝ }
 {
     if buffer.len() < text.len() {
         return Written {

@@ -14,6 +14,7 @@ use Rattle.formats.specs.declared.Number.the-variants.{Blank, Value, Invalid}
 use Rattle.formats.specs.Decimal.{valueOf}
 use Rattle.formats.specs.Lines.{lineFeed, lastLines, linesFrom}
 use Rattle.formats.specs.Number.{allDigits, fitted, numberOf, withByte}
+use Rattle.formats.specs.Written.{Filled, filledWith}
 use Rattle.formats.proofs.Numbers.{number-next, taken-next}
 use Rattle.reading.specs.declared.Fed.{Fed}
 use Rattle.reading.specs.Stream.{printedLine, allPrinted, Progress, printing, readOn, lastLine, readAll, fedWith, Filling, fed, filling}
@@ -113,6 +114,11 @@ pub stream-claim : StreamClaim
 stream-claim pieces =
     ap (λ (p : Progress). p .output ++ lastLine (p .number)) (pieces-read pieces Blank) ∙ lines-printed (joined pieces) []
 
+-- a line put into a buffer, by a number that is known
+pub filled-by : (line : Number → List ℕ) (m n : Number) (buffer : List ℕ) (f : Filled) → m ≡ n → f ≡ filledWith (line n) buffer
+    → f ≡ filledWith (line m) buffer
+filled-by line m n buffer f e g = g ∙ sym (ap (λ (x : Number). filledWith (line x) buffer) e)
+
 -- What is handed back for a piece, by the room that the buffer has.
 module _ (n : Number) (piece buffer : List ℕ) where
   pub fed-short : length buffer < 22 * length piece → filling (record { answer = 1; number = n; length = 0 }) buffer ≡ fedWith n piece buffer
@@ -207,7 +213,8 @@ module _ (n : Number) (piece buffer₀ : List ℕ) where
 
           put-back : putMid end (length buffer - end) buffer part ≡ (so-far i .output ++ next .output) ++ drop (end + length (next .output)) buffer₀
           put-back =
-              let none : drop (length buffer - end) (drop end buffer) ≡ [] = rw behind (drop-of-length-le (drop end buffer₀) {i = length buffer - end} (omega (arith, rest))) in
+              let none : drop (length buffer - end) (drop end buffer) ≡ [] =
+              rw behind (drop-of-length-le (drop end buffer₀) {i = length buffer - end} (omega (arith, rest))) in
               rw (before, none, part-is, append-nil, drop-drop) (sym (append-assoc (so-far i .output) (next .output) _))
 
           pub byte-read : Fed-to (putMid end (length buffer - end) buffer part) (r .number) (end + r .length) (i + 1)

@@ -19,7 +19,8 @@ use Rattle.formats.proofs.Decimals.{by-tens, decimal-one, decimal-more}
 use Rattle.formats.proofs.DecimalNumbers.{number-decimal, digit-next, only-decimal, is-digit}
 use Rattle.formats.proofs.Numbers.{number-next, only-append, value-fits}
 use Rattle.reading.specs.declared.Parsed.{Parsed}
-use Rattle.reading.specs.Text.{signed, minus, point, signOf, wholePart, tenthPart, countText, textOf, hasMinus, wordFor, sameBytes, accepted, noWord, readAs, parsedBy, parsedOf}
+use Rattle.reading.specs.Text.{signed, minus, point, signOf, wholePart, tenthPart, countText, textOf}
+use Rattle.reading.specs.Text.{hasMinus, wordFor, sameBytes, accepted, noWord, readAs, parsedBy, parsedOf}
 use Rattle.reading.specs.Claim.{Printed, ReadingClaim}
 use Rattle.reading.specs.Examples.{bytesOf, allPrint, ExamplesClaim}
 use Rattle.reading.proofs.SameBytes.{same-refl, same-true}

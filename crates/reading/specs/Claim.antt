@@ -33,4 +33,5 @@ joined (piece ∷ pieces) = piece ++ joined pieces
 -- the text's lines print
 abbrev pub StreamClaim : Type 0
 StreamClaim =
-    (pieces : List (List ℕ)) → readAll Blank pieces .output ++ lastLine (readAll Blank pieces .number) ≡ readingsOf (joined pieces)
+    (pieces : List (List ℕ))
+    → readAll Blank pieces .output ++ lastLine (readAll Blank pieces .number) ≡ readingsOf (joined pieces)

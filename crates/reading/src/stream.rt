@@ -24,7 +24,8 @@ fn put_reading(word: u64, buffer: &mut [u8]) -> Written
 
 // Puts the line for a number into the buffer: its reading, or 18.
 fn put_line(number: Number, buffer: &mut [u8]) -> Written
-    ensures { λ (r : Written). ⌜ filled r (now (buffer .exit)) ≡ filledWith (printedLine number) (now (buffer .entry)) ⌝ }
+    ensures { λ (r : Written). ⌜ filled r (now (buffer .exit))
+        ≡ filledWith (printedLine number) (now (buffer .entry)) ⌝ }
 {
     match number {
         Number::Blank => formats::put(b"18\n", buffer),

@@ -15,7 +15,10 @@ is-digit : (c : tie.Else1) → isDigit (c .before .before .args .byte) ≡ true
 is-digit c = sym (c .before .is-digit .ensures) ∙ not-false _ (c .if1 .left)
 
 returns : tie.Need-returns
-returns c = let a = c .before .before .args in fitted-not (isDigit (a .byte)) (withDigit (a .value) (a .byte)) (sym (c .before .is-digit .ensures) ∙ not-true _ (c .if1 .taken))
+returns c =
+    let a = c .before .before .args in
+    fitted-not (isDigit (a .byte)) (withDigit (a .value) (a .byte))
+    (sym (c .before .is-digit .ensures) ∙ not-true _ (c .if1 .taken))
 
 sub-last : tie.Need-sub-last
 sub-last c = digit-bounds _ (is-digit c) .0

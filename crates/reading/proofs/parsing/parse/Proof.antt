@@ -4,33 +4,32 @@ use mathlib.Core.Path.{_≡_, sym, _∙_, ap}
 use mathlib.Core.Bool.{Bool}
 use borrow.Author.Needs.{needs}
 use Rattle.formats.specs.declared.Number.{Number}
-use Rattle.formats.specs.declared.Number.the-variants.{Blank, Value, Invalid}
+use Rattle.reading.specs.declared.Parsed.{Parsed}
 use Rattle.reading.specs.Text.{parsedBy, parsedOf, wordFor, readAs}
 use Rattle.reading.proofs.parsing.parse.Statement.{statement}
 use Rattle.reading.proofs.parsing.parse.Tie as tie
 
-returns : tie.Need-returns
+-- the answer by what the text's digits give
+by-digits : (c : tie.After-number-of-digits) (n : Number) (r : Parsed) → c .number-of-digits .result ≡ n
+    → r ≡ parsedBy n (c .before .before .args .text .now) → r ≡ parsedOf (c .before .before .args .text .now)
 unfolding parsedOf
-returns c =
-    let d = c .before .before .before in
-    c .unread .ensures ∙ sym (ap (λ (n : Number). parsedBy n (d .before .before .args .text .now)) (sym (d .number-of-digits .ensures) ∙ c .before .enum-told .given .1))
+by-digits c n r e f =
+    f ∙ sym (ap (λ (x : Number). parsedBy x (c .before .before .args .text .now)) (sym (c .number-of-digits .ensures) ∙ e))
+
+returns : tie.Need-returns
+returns c = by-digits (c .before .before .before) _ _ (c .before .enum-told .given .1) (c .unread .ensures)
 
 returns-2 : tie.Need-returns-2
-unfolding parsedOf
 returns-2 c =
     let told = c .before .before .before in
     let d = told .before .before .before in
-    let text = d .before .before .args .text .now in
-    let e = sym (d .number-of-digits .ensures) ∙ told .before .count .given .1 in
-    c .read-as .ensures
-    ∙ ap (λ (word : ℕ). readAs word text) (c .before .word-for .ensures ∙ ap (λ (b : Bool). wordFor b (told .before .count .given .0 .0)) (c .before .before .has-minus .ensures))
-    ∙ sym (ap (λ (n : Number). parsedBy n text) e)
+    let count = told .before .count .given .0 .0 in
+    let word = c .before .word-for .ensures ∙ ap (λ (b : Bool). wordFor b count) (c .before .before .has-minus .ensures) in
+    by-digits d _ _ (told .before .count .given .1)
+    (c .read-as .ensures ∙ ap (λ (w : ℕ). readAs w (d .before .before .args .text .now)) word)
 
 returns-3 : tie.Need-returns-3
-unfolding parsedOf
-returns-3 c =
-    let d = c .before .before .before in
-    c .unread2 .ensures ∙ sym (ap (λ (n : Number). parsedBy n (d .before .before .args .text .now)) (sym (d .number-of-digits .ensures) ∙ c .before .enum-told2 .given .1))
+returns-3 c = by-digits (c .before .before .before) _ _ (c .before .enum-told2 .given .1) (c .unread2 .ensures)
 
 pub parse-spec : {M : Type 1} → statement M
 parse-spec =

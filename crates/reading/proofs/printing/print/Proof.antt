@@ -72,7 +72,8 @@ same-length c = simp length-set (c .before .before .before .text .given .1 ∙ k
 
 -- the last digit
 tenth : (c : tie.After-last-digit)
-    → c .last-digit .result ≡ digit (tenthPart (signed (c .before .before .before .before .before .before .before .before .before .before .before .before .args .word)))
+    → let counted = c .before .before .before .before .before .before .before .before .before .before in
+    c .last-digit .result ≡ digit (tenthPart (signed (counted .before .before .args .word)))
 tenth c =
     let counted = c .before .before .before .before .before .before .before .before .before .before in
     c .last-digit .ensures

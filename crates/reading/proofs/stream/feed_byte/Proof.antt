@@ -24,7 +24,9 @@ returns-2 c =
     let put = c .before .before in
     let a = put .before .before .before .before .before .args in
     let line = line-longest (a .number) in
-    let known = filled-known (printedLine (a .number)) (a .buffer .now) (put .put-line .result) (put .put-line .last .1 .0) (omega arith) (put .put-line .ensures) in
+    let known =
+    filled-known (printedLine (a .number)) (a .buffer .now) (put .put-line .result) (put .put-line .last .1 .0) (omega arith)
+    (put .put-line .ensures) in
     rw (ap (λ (w : Written). w .length) (known .0), known .1)
     (fed-whole (a .number) (a .byte ∷ []) (a .buffer .now) _ (omega arith) (read-feed (a .number) (a .byte) (put .before .before .if2 .taken)))
 

@@ -1,10 +1,10 @@
 -- The decimal text of a number, read back as a number.
-use Prim.Native.Nat.{ℕ, _+_, _*_, _/_, _%_, _^_, _<_, _≤_}
-use mathlib.Core.Path.{_≡_, refl, sym, _∙_, ap}
-use mathlib.Core.Bool.{Bool, true}
-use mathlib.Core.List.{List, [], _∷_, _++_}
+use Prim.Native.Nat.{ℕ, _+_, _*_, _/_, _%_, _^_, _<_}
+use mathlib.Core.Path.{_≡_, sym, _∙_, ap}
+use mathlib.Core.Bool.{true}
+use mathlib.Core.List.{[], _∷_}
 use native.Mathlib.Omega.{arith}
-use borrow.Author.Tests.{le-leb, lt-ltb}
+use borrow.Author.Tests.{le-leb}
 use Rattle.formats.specs.declared.Number.{Number}
 use Rattle.formats.specs.declared.Number.the-variants.{Value}
 use Rattle.formats.specs.Decimal.{digit, isDigit, decimal, withDigit}
@@ -13,7 +13,7 @@ use Rattle.formats.proofs.Decimals.{by-tens, decimal-one, decimal-more}
 use Rattle.formats.proofs.Numbers.{fitted-value, number-next, only-append}
 
 pub is-digit : (d : ℕ) → d < 10 → isDigit (digit d) ≡ true
-is-digit d h = rw (le-leb 48 (48 + d) (omega arith), lt-ltb (48 + d) 58 (omega arith))
+is-digit d h = rw (le-leb 48 (48 + d) (omega arith), le-leb (48 + d) 57 (omega arith))
 
 -- one digit more
 pub digit-next : (v d : ℕ) → d < 10 → 10 * v + d < 2 ^ 64 → withByte (Value v) (digit d) ≡ Value (10 * v + d)

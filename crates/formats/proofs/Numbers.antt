@@ -1,17 +1,17 @@
 -- Laws of a number that is read from a text.
-use Prim.Native.Nat.{ℕ, _+_, _-_, _*_, _^_, _≤_, _<_}
+use Prim.Native.Nat.{ℕ, _+_, _^_, _≤_, _<_}
 use mathlib.Core.Path.{_≡_, refl, sym, _∙_, ap}
 use mathlib.Core.Bool.{Bool, true, false, cond, _&&_}
 use mathlib.Core.List.{List, [], _∷_, _++_, append-nil}
 use native.Mathlib.Decide.{decLt}
 use native.Mathlib.Numerals.{add-one}
 use native.Mathlib.Omega.{arith}
-use borrow.Author.Tests.{lt-ltb, le-ltb, leb-true, ltb-true}
+use borrow.Author.Tests.{lt-ltb, le-ltb, leb-true}
 use lib.Dec.{leb, ltb}
 use lib.ListN.{length, getD, take}
 use lib.Seq.{take-suc}
 use Rattle.formats.specs.declared.Number.{Number}
-use Rattle.formats.specs.declared.Number.the-variants.{Blank, Value, Invalid}
+use Rattle.formats.specs.declared.Number.the-variants.{Value, Invalid}
 use Rattle.formats.specs.Decimal.{isDigit, withDigit, valueFrom, valueOf}
 use Rattle.formats.specs.Number.{allDigits, fitted, numberOf, withByte, onlyDigits}
 use Rattle.formats.proofs.Decimals.{value-append}
@@ -29,10 +29,10 @@ both true b e = (refl, e)
 both false b e = (e, absurd (let z : _≡_ {A = ℕ} 0 1 = cc in omega arith))
 
 -- the bounds of a digit
-pub digit-bounds : (byte : ℕ) → isDigit byte ≡ true → (48 ≤ byte) × (byte < 58)
+pub digit-bounds : (byte : ℕ) → isDigit byte ≡ true → (48 ≤ byte) × (byte ≤ 57)
 digit-bounds byte e =
-    let h = both (leb 48 byte) (ltb byte 58) e in
-    (leb-true 48 byte (h .0), ltb-true byte 58 (h .1))
+    let h = both (leb 48 byte) (leb byte 57) e in
+    (leb-true 48 byte (h .0), leb-true byte 57 (h .1))
 
 -- what is no digit is no number
 pub fitted-not : (b : Bool) (v : ℕ) → b ≡ false → Invalid ≡ fitted b v

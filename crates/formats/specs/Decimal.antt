@@ -8,10 +8,12 @@ use lib.Dec.{ltb, leb}
 abbrev pub digit : ℕ → ℕ
 digit d = 48 + d
 
+-- from `0` to `9`
 abbrev pub isDigit : ℕ → Bool
-isDigit byte = leb 48 byte && ltb byte 58
+isDigit byte = leb 48 byte && leb byte 57
 
--- the digits of n; the first argument bounds how many there can be
+-- the digits of n; the first argument bounds how many there can be (`more` has a name so that it is computed only where
+-- it is wanted)
 unfoldable pub digitsBy : ℕ → ℕ → List ℕ
 digitsBy zero n = []
 digitsBy (suc k) n =

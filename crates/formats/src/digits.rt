@@ -22,7 +22,7 @@ pub fn decimal_length(number: u64) -> usize
 pub fn last_digit(number: u64) -> u8
     ensures { λ r. ⌜ r ≡ digit (number % 10) ⌝ }
 {
-    48 + (number % 10) as u8
+    b'0' + (number % 10) as u8
 }
 
 // Fills the buffer with the number's last digits, as many as there are places.

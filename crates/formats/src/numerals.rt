@@ -1,24 +1,24 @@
 // Numbers read from a text, byte by byte: zeros in front without end, and a value above 64 bits found without overflow.
 ghost use mathlib.Core.Path.{_≡_};
 ghost use mathlib.Core.Bool.{cond};
-ghost use Rattle.formats.specs.Decimal.{isDigit as Decimal·isDigit, withDigit};
+ghost use Rattle.formats.specs.Decimal.{isDigit, withDigit};
 ghost use Rattle.formats.specs.Number.{fitted, numberOf, withByte, onlyDigits};
 use crate::Number;
 
 fn is_digit(byte: u8) -> bool
-    ensures { λ r. ⌜ r ≡ Decimal·isDigit byte ⌝ }
+    ensures { λ r. ⌜ r ≡ isDigit byte ⌝ }
 {
-    (48 <= byte) & (byte < 58)
+    (b'0' <= byte) & (byte <= b'9')
 }
 
 // A value with a byte more behind it, if that is a digit and the new value fits.
 fn value_with(value: u64, byte: u8) -> Number
-    ensures { λ (r : Number). ⌜ r ≡ fitted (Decimal·isDigit byte) (withDigit value byte) ⌝ }
+    ensures { λ (r : Number). ⌜ r ≡ fitted (isDigit byte) (withDigit value byte) ⌝ }
 {
     if !is_digit(byte) {
         return Number::Invalid;
     }
-    let last = (byte - 48) as u64;
+    let last = (byte - b'0') as u64;
     if value <= (u64::MAX - last) / 10 {
         return Number::Value(10 * value + last);
     }
@@ -37,7 +37,7 @@ pub fn with_byte(number: Number, byte: u8) -> Number
 
 // A number with a byte more behind it, if that is a digit; other bytes are passed over.
 fn with_digit(number: Number, byte: u8) -> Number
-    ensures { λ (r : Number). ⌜ r ≡ cond (Decimal·isDigit byte) (withByte number byte) number ⌝ }
+    ensures { λ (r : Number). ⌜ r ≡ cond (isDigit byte) (withByte number byte) number ⌝ }
 {
     if is_digit(byte) {
         return with_byte(number, byte);

@@ -1,6 +1,8 @@
 // Texts put into lent buffers.
 ghost use mathlib.Core.Path.{_≡_};
 ghost use Rattle.formats.specs.Written.{filled, filledWith};
+use crate::DONE;
+use crate::SIZE;
 use crate::Written;
 
 // Puts a text at the start of the buffer, if it has room.
@@ -10,7 +12,7 @@ pub fn put(text: &[u8], buffer: &mut [u8]) -> Written
 {
     if buffer.len() < text.len() {
         return Written {
-            answer: 1,
+            answer: SIZE,
             length: 0,
         };
     }
@@ -20,7 +22,7 @@ pub fn put(text: &[u8], buffer: &mut [u8]) -> Written
         i += 1;
     }
     Written {
-        answer: 0,
+        answer: DONE,
         length: i,
     }
 }

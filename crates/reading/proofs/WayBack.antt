@@ -1,5 +1,5 @@
 -- A printed reading leads back to its word, and the worked examples.
-use Prim.Native.Nat.{ℕ, suc, _+_, _-_, _*_, _/_, _%_, _^_, _≤_, _<_}
+use Prim.Native.Nat.{ℕ, _+_, _*_, _^_, _<_}
 use mathlib.Core.Path.{_≡_, refl, sym, _∙_, ap}
 use mathlib.Core.Logic.{_⊎_, inl, inr, ⊎-elim}
 use mathlib.Core.Bool.{Bool, true, false, cond}
@@ -8,7 +8,7 @@ use native.Mathlib.Decide.{decLe, decLt}
 use native.Mathlib.Omega.{arith}
 use borrow.Author.Tests.{ne-eqb, le-leb, lt-leb}
 use lib.IntN.{ℤ, pos, negsuc, natAbs}
-use lib.ListN.{length, take, drop}
+use lib.ListN.{length}
 use lib.Seq.{take-append-seam}
 use Rattle.formats.specs.declared.Number.{Number}
 use Rattle.formats.specs.declared.Number.the-variants.{Blank, Value, Invalid}
@@ -52,9 +52,9 @@ count-read z h =
     ∙ ap (λ (n : Number). withByte n (digit (tenthPart z))) (number-decimal (wholePart z) (omega arith))
     ∙ digit-next (wholePart z) (tenthPart z) small (omega arith) ∙ ap Value e
 
-abbrev below : ℤ → Bool
-below (pos n) = false
-below (negsuc n) = true
+abbrev isNegative : ℤ → Bool
+isNegative (pos n) = false
+isNegative (negsuc n) = true
 
 -- a minus stands in front of a count below zero alone
 no-minus : (n : ℕ) (ys : List ℕ) → hasMinus (decimal n ++ ys) ≡ false
@@ -62,7 +62,7 @@ no-minus = by-tens (λ n. (ys : List ℕ) → hasMinus (decimal n ++ ys) ≡ fal
     (λ n h ys. rw (decimal-one n h) (ne-eqb (48 + n) minus (λ e. omega arith)))
     (λ n h ih ys. rw (decimal-more n h, append-assoc) (ih _))
 
-minus-of : (z : ℤ) → hasMinus (countText z) ≡ below z
+minus-of : (z : ℤ) → hasMinus (countText z) ≡ isNegative z
 unfolding countText
 minus-of (pos n) = no-minus (wholePart (pos n)) _
 minus-of (negsuc n) = refl

@@ -17,17 +17,17 @@ pub record Example : Type 0 where
   pub word : ℕ
   pub text : S.String
 
--- the word of a count below zero, given without its sign
-abbrev pub below : ℕ → ℕ
-below count = 2 ^ 64 - count
+-- the word of so many tenths below zero
+abbrev pub minusTenths : ℕ → ℕ
+minusTenths count = 2 ^ 64 - count
 
 abbrev pub prints : ℕ → S.String → Example
 prints word text = record { word = word; text = text }
 
 abbrev pub examples : List Example
 examples =
-    prints (below 4) "-0.4" ∷ prints 4 "0.4" ∷ prints 0 "0.0" ∷ prints (below 10) "-1.0" ∷
-    prints (below (2 ^ 63)) "-922337203685477580.8" ∷ prints (2 ^ 63 - 1) "922337203685477580.7" ∷ []
+    prints (minusTenths 4) "-0.4" ∷ prints 4 "0.4" ∷ prints 0 "0.0" ∷ prints (minusTenths 10) "-1.0" ∷
+    prints (minusTenths (2 ^ 63)) "-922337203685477580.8" ∷ prints (2 ^ 63 - 1) "922337203685477580.7" ∷ []
 
 unfoldable pub allPrint : List Example → Bool
 allPrint [] = true

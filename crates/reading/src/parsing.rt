@@ -4,6 +4,8 @@ ghost use Rattle.reading.specs.Text.{hasMinus, wordFor, noWord, readAs, 
 use crate::LONGEST;
 use crate::Parsed;
 use crate::print;
+use formats::DONE;
+use formats::MALFORMED;
 use formats::Number;
 
 // The answer to a text that no word has.
@@ -11,7 +13,7 @@ fn unread() -> Parsed
     ensures { λ (r : Parsed). ⌜ r ≡ noWord ⌝ }
 {
     Parsed {
-        answer: 18,
+        answer: MALFORMED,
         word: 0,
     }
 }
@@ -43,7 +45,7 @@ fn read_as(word: u64, text: &[u8]) -> Parsed
     let mut own = [0u8; LONGEST];
     let n = print(word, &mut own).length;
     if check::same(&own[..n], text) {
-        Parsed { answer: 0, word }
+        Parsed { answer: DONE, word }
     } else {
         unread()
     }

@@ -3,6 +3,8 @@ ghost use mathlib.Core.Path.{_≡_};
 ghost use lib.IntN.{natAbs};
 ghost use Rattle.formats.specs.Written.{filled, filledWith};
 ghost use Rattle.reading.specs.Text.{signed, wholePart, tenthPart, textOf};
+use formats::DONE;
+use formats::SIZE;
 use formats::Written;
 
 // The words from here on hold counts below zero.
@@ -52,7 +54,7 @@ pub fn print(word: u64, text: &mut [u8]) -> Written
     let end = start + formats::decimal_length(whole);
     if text.len() < end + 2 {
         return Written {
-            answer: 1,
+            answer: SIZE,
             length: 0,
         };
     }
@@ -63,7 +65,7 @@ pub fn print(word: u64, text: &mut [u8]) -> Written
     text[end] = b'.';
     text[end + 1] = formats::last_digit(tenth_part(tenths));
     Written {
-        answer: 0,
+        answer: DONE,
         length: end + 2,
     }
 }

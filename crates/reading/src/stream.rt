@@ -6,10 +6,12 @@ ghost use Rattle.reading.specs.Stream.{printedLine, lastLine, filling, f
 use crate::Fed;
 use crate::LINE;
 use crate::print;
+use formats::DONE;
 use formats::Number;
+use formats::SIZE;
 use formats::Written;
 
-const LINE_FEED: u8 = 10;
+const LINE_FEED: u8 = b'\n';
 
 // Puts a word's reading into the buffer, on a line.
 fn put_reading(word: u64, buffer: &mut [u8]) -> Written
@@ -40,7 +42,7 @@ fn feed_byte(number: Number, byte: u8, buffer: &mut [u8]) -> Fed
 {
     if buffer.len() < LINE {
         return Fed {
-            answer: 1,
+            answer: SIZE,
             number,
             length: 0,
         };
@@ -48,13 +50,13 @@ fn feed_byte(number: Number, byte: u8, buffer: &mut [u8]) -> Fed
     if byte == LINE_FEED {
         let length = put_line(number, buffer).length;
         return Fed {
-            answer: 0,
+            answer: DONE,
             number: Number::Blank,
             length,
         };
     }
     Fed {
-        answer: 0,
+        answer: DONE,
         number: formats::with_byte(number, byte),
         length: 0,
     }
@@ -68,7 +70,7 @@ pub fn feed(number: Number, piece: &[u8], buffer: &mut [u8]) -> Fed
 {
     if buffer.len() / LINE < piece.len() {
         return Fed {
-            answer: 1,
+            answer: SIZE,
             number,
             length: 0,
         };
@@ -83,7 +85,7 @@ pub fn feed(number: Number, piece: &[u8], buffer: &mut [u8]) -> Fed
         i += 1;
     }
     Fed {
-        answer: 0,
+        answer: DONE,
         number: read,
         length: end,
     }
@@ -95,7 +97,7 @@ pub fn finish(number: Number, buffer: &mut [u8]) -> Written
 {
     match number {
         Number::Blank => Written {
-            answer: 0,
+            answer: DONE,
             length: 0,
         },
         Number::Value(word) => put_reading(word, buffer),

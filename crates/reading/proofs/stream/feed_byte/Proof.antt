@@ -1,15 +1,12 @@
 -- `feed_byte` meets its contract.
-use Prim.Native.Nat.{ℕ}
-use mathlib.Core.Path.{_≡_, _∙_, ap}
-use mathlib.Core.List.{List, [], _∷_}
+use mathlib.Core.Path.{ap}
+use mathlib.Core.List.{[], _∷_}
 use native.Mathlib.Omega.{arith}
 use borrow.Author.Needs.{needs}
 use lib.ListN.{length}
-use Rattle.formats.specs.declared.Number.{Number}
-use Rattle.formats.specs.declared.Number.the-variants.{Blank}
 use Rattle.formats.specs.declared.Written.{Written}
 use Rattle.formats.proofs.Buffers.{filled-known}
-use Rattle.reading.specs.Stream.{printedLine, filling, fed}
+use Rattle.reading.specs.Stream.{printedLine}
 use Rattle.reading.proofs.Streams.{line-longest, read-feed, read-other, fed-short, fed-whole}
 use Rattle.reading.proofs.stream.feed_byte.Statement.{statement}
 use Rattle.reading.proofs.stream.feed_byte.Tie as tie

@@ -7,7 +7,7 @@ use std::io::{BufWriter, ErrorKind, Read, Result, Write};
 
 /// The text or the line isn't what it should be.
 pub const MALFORMED: u64 = 18;
-/// The length of the smallest word's text; no other is as long.
+/// The length of the longest texts, the smallest word's among them.
 pub const LONGEST: usize = 21;
 const BLOCK: usize = 4096;
 

@@ -8,7 +8,7 @@ use borrow.Author.Tests.{le-leb}
 use Rattle.formats.specs.declared.Number.{Number}
 use Rattle.formats.specs.declared.Number.the-variants.{Value}
 use Rattle.formats.specs.Decimal.{digit, isDigit, decimal, withDigit}
-use Rattle.formats.specs.Number.{fitted, numberOf, withByte, onlyDigits}
+use Rattle.formats.specs.Number.{fitted, numberIn, withByte, onlyDigits}
 use Rattle.formats.proofs.Decimals.{by-tens, decimal-one, decimal-more}
 use Rattle.formats.proofs.Numbers.{fitted-value, number-next, only-append}
 
@@ -22,8 +22,8 @@ digit-next v d h k =
     ap (fitted (isDigit (digit d))) e ∙ sym (fitted-value (isDigit (digit d)) (10 * v + d) (is-digit d h) k)
 
 -- a number's text is read as that number
-pub number-decimal : (n : ℕ) → n < 2 ^ 64 → numberOf (decimal n) ≡ Value n
-number-decimal = by-tens (λ n. n < 2 ^ 64 → numberOf (decimal n) ≡ Value n)
+pub number-decimal : (n : ℕ) → n < 2 ^ 64 → numberIn (decimal n) ≡ Value n
+number-decimal = by-tens (λ n. n < 2 ^ 64 → numberIn (decimal n) ≡ Value n)
     (λ n h k. rw (decimal-one n h) (number-next [] (digit n) ∙ digit-next 0 n h (omega arith) ∙ ap Value (omega arith)))
     (λ n h ih k.
     rw (decimal-more n h)

@@ -1,4 +1,4 @@
--- Laws of decimal numbers as text: one digit more at the end, how many there are, and the way back.
+-- Laws of decimal numbers as text: one digit more at the end, and how many there are.
 use Prim.Native.Nat.{ℕ, zero, suc, _+_, _-_, _*_, _/_, _%_, _^_, _≤_, _<_}
 use mathlib.Core.Path.{_≡_, refl, sym, _∙_, ap}
 use mathlib.Core.List.{List, [], _∷_, _++_, append-assoc, append-nil}
@@ -9,7 +9,7 @@ use native.Mathlib.Omega.{arith}
 use borrow.Author.Tests.{lt-ltb, le-ltb}
 use lib.ListN.{length, drop, set, length-append}
 use lib.Seq.{lt-length-set, drop-cons, drop-length, drop-set-lt, getD-set-same}
-use Rattle.formats.specs.Decimal.{digit, digitsBy, decimal, lastDigits, withDigit, valueFrom, valueOf}
+use Rattle.formats.specs.Decimal.{digit, digitsBy, decimal, lastDigits, withDigit, valueFrom}
 
 -- from the numbers below ten to those with one digit more
 module _ (P : ℕ → Type 0) (one : (n : ℕ) → n < 10 → P n) (more : (n : ℕ) → 10 ≤ n → P (n / 10) → P n) where
@@ -59,13 +59,6 @@ pub value-append : (v : ℕ) (xs ys : List ℕ) → valueFrom v (xs ++ ys) ≡ v
 unfolding valueFrom
 value-append v [] ys = refl
 value-append v (x ∷ xs) ys = value-append (withDigit v x) xs ys
-
--- a number's digits give it back
-pub value-decimal : (n : ℕ) → valueOf (decimal n) ≡ n
-unfolding valueFrom
-value-decimal = by-tens (λ n. valueOf (decimal n) ≡ n)
-    (λ n h. rw (decimal-one n h) (omega arith))
-    (λ n h ih. rw (decimal-more n h, value-append, ih) (omega arith))
 
 -- a number below a power of ten has no more digits than that power has zeros
 pub decimal-short : (k n : ℕ) → n < 10 ^ suc k → length (decimal n) ≤ suc k

@@ -7,13 +7,13 @@ use native.Mathlib.Decide.{decLt}
 use native.Mathlib.Numerals.{add-one}
 use native.Mathlib.Omega.{arith}
 use borrow.Author.Tests.{lt-ltb, le-ltb, leb-true}
-use lib.Dec.{leb, ltb}
+use lib.Dec.{leb}
 use lib.ListN.{length, getD, take}
 use lib.Seq.{take-suc}
 use Rattle.formats.specs.declared.Number.{Number}
 use Rattle.formats.specs.declared.Number.the-variants.{Value, Invalid}
 use Rattle.formats.specs.Decimal.{isDigit, withDigit, valueFrom, valueOf}
-use Rattle.formats.specs.Number.{allDigits, fitted, numberOf, withByte, onlyDigits}
+use Rattle.formats.specs.Number.{allDigits, fitted, numberIn, withByte, onlyDigits}
 use Rattle.formats.proofs.Decimals.{value-append}
 
 pub and-false : (b : Bool) → (b && false) ≡ false
@@ -62,7 +62,7 @@ value-next true v byte = elim (decLt v (2 ^ 64)) [
 ]
 
 -- one byte more
-pub number-next : (bytes : List ℕ) (byte : ℕ) → numberOf (bytes ++ (byte ∷ [])) ≡ withByte (numberOf bytes) byte
+pub number-next : (bytes : List ℕ) (byte : ℕ) → numberIn (bytes ++ (byte ∷ [])) ≡ withByte (numberIn bytes) byte
 unfolding allDigits valueFrom
 number-next [] byte = ap (λ (d : Bool). fitted d (withDigit 0 byte)) (and-true (isDigit byte))
 number-next (x ∷ xs) byte =
@@ -83,28 +83,28 @@ only-append (x ∷ xs) ys = pick (isDigit x) (only-append xs ys)
     pick false e = e
 
 pub digits-next : (bytes : List ℕ) (byte : ℕ)
-    → numberOf (onlyDigits (bytes ++ (byte ∷ [])))
-    ≡ cond (isDigit byte) (withByte (numberOf (onlyDigits bytes)) byte) (numberOf (onlyDigits bytes))
+    → numberIn (onlyDigits (bytes ++ (byte ∷ [])))
+    ≡ cond (isDigit byte) (withByte (numberIn (onlyDigits bytes)) byte) (numberIn (onlyDigits bytes))
 unfolding onlyDigits
-digits-next bytes byte = ap numberOf (only-append bytes (byte ∷ [])) ∙ pick (isDigit byte)
+digits-next bytes byte = ap numberIn (only-append bytes (byte ∷ [])) ∙ pick (isDigit byte)
   where
     before : Number
-    before = numberOf (onlyDigits bytes)
+    before = numberIn (onlyDigits bytes)
 
-    pick : (b : Bool) → numberOf (onlyDigits bytes ++ cond b (byte ∷ []) []) ≡ cond b (withByte before byte) before
+    pick : (b : Bool) → numberIn (onlyDigits bytes ++ cond b (byte ∷ []) []) ≡ cond b (withByte before byte) before
     pick true = number-next (onlyDigits bytes) byte
-    pick false = ap numberOf (append-nil (onlyDigits bytes))
+    pick false = ap numberIn (append-nil (onlyDigits bytes))
 
 -- a text read up to a place, and one byte more
 pub taken-next : (text : List ℕ) (i : ℕ) → i < length text → take (i + 1) text ≡ take i text ++ (getD text i 0 ∷ [])
 taken-next text i h = rw add-one (take-suc text i 0 h)
 
-pub digits-passed : (text : List ℕ) (i : ℕ) (n : Number) → i < length text → n ≡ numberOf (onlyDigits (take i text))
-    → cond (isDigit (getD text i 0)) (withByte n (getD text i 0)) n ≡ numberOf (onlyDigits (take (i + 1) text))
+pub digits-passed : (text : List ℕ) (i : ℕ) (n : Number) → i < length text → n ≡ numberIn (onlyDigits (take i text))
+    → cond (isDigit (getD text i 0)) (withByte n (getD text i 0)) n ≡ numberIn (onlyDigits (take (i + 1) text))
 digits-passed text i n h e = rw (taken-next text i h, e) (sym (digits-next (take i text) (getD text i 0)))
 
 -- a number of 64 bits, and what was read as one
-pub value-fits : (bytes : List ℕ) (v : ℕ) → numberOf bytes ≡ Value v → v < 2 ^ 64
+pub value-fits : (bytes : List ℕ) (v : ℕ) → numberIn bytes ≡ Value v → v < 2 ^ 64
 value-fits [] v e = absurd (let z : _≡_ {A = ℕ} 0 1 = cc in omega arith)
 value-fits (x ∷ xs) v e = pick (allDigits (x ∷ xs)) (valueOf (x ∷ xs)) e
   where

@@ -18,6 +18,6 @@ linesFrom begun [] = lastLines begun
 linesFrom begun (byte ∷ bytes) =
     cond (eqb byte lineFeed) (begun ∷ linesFrom [] bytes) (linesFrom (begun ++ (byte ∷ [])) bytes)
 
--- "each line ends with a line feed, which the last may lack"
+-- document 02, [4]: "each line ends with a line feed, which the last may lack"
 abbrev pub linesOf : List ℕ → List (List ℕ)
 linesOf text = linesFrom [] text

@@ -11,14 +11,14 @@ unfoldable pub allDigits : List ℕ → Bool
 allDigits [] = true
 allDigits (byte ∷ bytes) = isDigit byte && allDigits bytes
 
--- a number of at most 64 bits
+-- the value of bytes that are valid digits or not, if it has at most 64 bits
 abbrev pub fitted : Bool → ℕ → Number
-fitted digits v = cond (digits && ltb v (2 ^ 64)) (Value v) Invalid
+fitted valid v = cond (valid && ltb v (2 ^ 64)) (Value v) Invalid
 
--- "Numbers are decimal digits", one at least, with any zeros in front, and none "exceeds 64 bits"
-abbrev pub numberOf : List ℕ → Number
-numberOf [] = Blank
-numberOf (byte ∷ bytes) = fitted (allDigits (byte ∷ bytes)) (valueOf (byte ∷ bytes))
+-- document 02, [4]: "Numbers are decimal digits", one at least, with any zeros in front, and none "exceeds 64 bits"
+abbrev pub numberIn : List ℕ → Number
+numberIn [] = Blank
+numberIn (byte ∷ bytes) = fitted (allDigits (byte ∷ bytes)) (valueOf (byte ∷ bytes))
 
 -- a number with one byte more behind it
 abbrev pub withByte : Number → ℕ → Number

@@ -2,7 +2,7 @@
 ghost use mathlib.Core.Path.{_≡_};
 ghost use mathlib.Core.Bool.{cond};
 ghost use Rattle.formats.specs.Decimal.{isDigit, withDigit};
-ghost use Rattle.formats.specs.Number.{fitted, numberOf, withByte, onlyDigits};
+ghost use Rattle.formats.specs.Number.{fitted, numberIn, withByte, onlyDigits};
 use crate::Number;
 
 fn is_digit(byte: u8) -> bool
@@ -25,6 +25,7 @@ fn value_with(value: u64, byte: u8) -> Number
     Number::Invalid
 }
 
+// A number with a byte more behind it.
 pub fn with_byte(number: Number, byte: u8) -> Number
     ensures { λ (r : Number). ⌜ r ≡ withByte number byte ⌝ }
 {
@@ -36,7 +37,7 @@ pub fn with_byte(number: Number, byte: u8) -> Number
 }
 
 // A number with a byte more behind it, if that is a digit; other bytes are passed over.
-fn with_digit(number: Number, byte: u8) -> Number
+fn with_byte_if_digit(number: Number, byte: u8) -> Number
     ensures { λ (r : Number). ⌜ r ≡ cond (isDigit byte) (withByte number byte) number ⌝ }
 {
     if is_digit(byte) {
@@ -47,12 +48,12 @@ fn with_digit(number: Number, byte: u8) -> Number
 
 // The number that the digits of a text give, its other bytes passed over.
 pub fn number_of_digits(text: &[u8]) -> Number
-    ensures { λ (r : Number). ⌜ r ≡ numberOf (onlyDigits (now (text .entry))) ⌝ }
+    ensures { λ (r : Number). ⌜ r ≡ numberIn (onlyDigits (now (text .entry))) ⌝ }
 {
     let mut number = Number::Blank;
     let mut i = 0;
     while i < text.len() {
-        number = with_digit(number, text[i]);
+        number = with_byte_if_digit(number, text[i]);
         i += 1;
     }
     number

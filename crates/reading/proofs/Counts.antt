@@ -27,19 +27,19 @@ mag-complement (pos n) = ap mag (complement-pos n)
 mag-complement (negsuc n) = ap mag (complement-neg n)
 
 module _ (word : ℕ) (high : 2 ^ 63 ≤ word) (fits : word < 2 ^ 64) where
-  abbrev inverse : ℕ
-  inverse = 18446744073709551615 - word
+  abbrev complemented : ℕ
+  complemented = 18446744073709551615 - word
 
-  inverse-read : negsuc 0 -ℤ toZ w64 inverse ≡ negsuc inverse
-  inverse-read = ap (λ (z : ℤ). negsuc 0 -ℤ z) (toZ-pos w64 inverse (omega arith)) ∙ complement-pos inverse
+  complement-read-word : negsuc 0 -ℤ toZ w64 complemented ≡ negsuc complemented
+  complement-read-word = ap (λ (z : ℤ). negsuc 0 -ℤ z) (toZ-pos w64 complemented (omega arith)) ∙ complement-pos complemented
 
-  -- a word of 2^63 or more holds the complement of its inverse
-  pub inverse-fits : SFits w64 (negsuc 0 -ℤ toZ w64 inverse)
-  inverse-fits = subst (SFits w64) (sym inverse-read) (record { sfits = omega arith })
+  -- a word of 2^63 or more holds the complement of its own complement
+  pub word-complement-fits : SFits w64 (negsuc 0 -ℤ toZ w64 complemented)
+  word-complement-fits = subst (SFits w64) (sym complement-read-word) (record { sfits = omega arith })
 
-  pub inverse-signed : toZ w64 (ofZ w64 (negsuc 0 -ℤ toZ w64 inverse)) ≡ signed word
-  inverse-signed =
-      toZ-ofZ w64 _ inverse-fits ∙ inverse-read ∙ rw (le-ltb word (2 ^ 63) high) (ap negsuc (omega arith))
+  pub word-complement-signed : toZ w64 (ofZ w64 (negsuc 0 -ℤ toZ w64 complemented)) ≡ signed word
+  word-complement-signed =
+      toZ-ofZ w64 _ word-complement-fits ∙ complement-read-word ∙ rw (le-ltb word (2 ^ 63) high) (ap negsuc (omega arith))
 
 -- a test below zero
 below-zero : (z : ℤ) → ltZ z (pos 0) ≡ true → z ≡ negsuc (mag z)
@@ -53,6 +53,15 @@ not-below-zero (negsuc n) e = absurd (let z : _≡_ {A = ℕ} 0 1 = cc in omega 
 -- a cast to an unsigned type of what isn't negative
 pub cast-pos : (z : ℤ) (n : ℕ) → z ≡ pos n → n < 2 ^ 64 → T (nonNeg z) × Fits w64 (natAbs z)
 cast-pos z n e h = subst (λ (y : ℤ). T (nonNeg y) × Fits w64 (natAbs y)) (sym e) (tt, record { fits = h })
+
+-- ten divides, toward zero
+mag-neg : (r a : ℕ) → r ≤ suc a → mag (negℤ (pos r)) ≤ a
+mag-neg zero a h = omega arith
+mag-neg (suc r) a h = omega arith
+
+mag-quot : (y : ℤ) → mag (quotZ y (pos 10)) ≤ mag y
+mag-quot (pos a) = div-le-self a 10
+mag-quot (negsuc a) = mag-neg (suc a / 10) a (div-le-self (suc a) 10)
 
 module _ (z : ℤ) (fits : SFits w64 z) where
   abbrev pub read : ℤ
@@ -75,15 +84,6 @@ module _ (z : ℤ) (fits : SFits w64 z) where
 
   pub positive-read : ltZ read (pos 0) ≡ false → read ≡ pos (mag z)
   positive-read e = toZ-ofZ w64 z fits ∙ not-below-zero z (rw (toZ-ofZ w64 z fits) at e)
-
-  -- ten divides, toward zero
-  mag-neg : (r a : ℕ) → r ≤ suc a → mag (negℤ (pos r)) ≤ a
-  mag-neg zero a h = omega arith
-  mag-neg (suc r) a h = omega arith
-
-  mag-quot : (y : ℤ) → mag (quotZ y (pos 10)) ≤ mag y
-  mag-quot (pos a) = div-le-self a 10
-  mag-quot (negsuc a) = mag-neg (suc a / 10) a (div-le-self (suc a) 10)
 
   pub quot-fits : SFits w64 (quotZ read (pos 10))
   quot-fits = sfits-le (mag-quot read) (subst (SFits w64) (sym (toZ-ofZ w64 z fits)) fits)

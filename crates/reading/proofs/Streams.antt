@@ -8,16 +8,16 @@ use borrow.Author.Tests.{le-leb, lt-leb, eq-eqb, ne-eqb}
 use lib.Dec.{eqb, ltb, leb}
 use borrow.Rule.Slice.PartMut.{midOf, putMid}
 use lib.ListN.{length, getD, take, drop, length-append, length-drop, drop-of-length-le}
-use lib.Seq.{take-all, take-at, drop-at, drop-drop, length-take-le}
+use lib.Seq.{take-all, take-append-seam, take-at, drop-at, drop-drop, length-take-le}
 use Rattle.formats.specs.declared.Number.{Number}
 use Rattle.formats.specs.declared.Number.the-variants.{Blank, Value, Invalid}
 use Rattle.formats.specs.Decimal.{valueOf}
 use Rattle.formats.specs.Lines.{lineFeed, lastLines, linesFrom}
-use Rattle.formats.specs.Number.{allDigits, fitted, numberOf, withByte}
+use Rattle.formats.specs.Number.{allDigits, fitted, numberIn, withByte}
 use Rattle.formats.specs.Written.{Filled, filledWith}
 use Rattle.formats.proofs.Numbers.{number-next, taken-next}
 use Rattle.reading.specs.declared.Fed.{Fed}
-use Rattle.reading.specs.Stream.{printedLine, allPrinted, Progress, printing, readOn, lastLine, readAll, fedWith, Filling, fed, filling}
+use Rattle.reading.specs.Stream.{printedLine, allPrinted, Progress, outputBefore, readOn, printedLast, readAll, fedWith, Filling, fedInto, filling}
 use Rattle.reading.specs.Claim.{joined, StreamClaim}
 use Rattle.reading.proofs.Texts.{text-longest}
 
@@ -35,12 +35,12 @@ output-longest n (byte ∷ piece) =
     pick (eqb byte lineFeed) (output-longest Blank piece) (output-longest (withByte n byte) piece)
   where
     pick : (b : Bool) → length (readOn Blank piece .output) ≤ 22 * length piece → length (readOn (withByte n byte) piece .output) ≤ 22 * length piece
-        → length (cond b (printing (printedLine n) (readOn Blank piece)) (readOn (withByte n byte) piece) .output) ≤ 22 * suc (length piece)
+        → length (cond b (outputBefore (printedLine n) (readOn Blank piece)) (readOn (withByte n byte) piece) .output) ≤ 22 * suc (length piece)
     pick true h k = simp length-append (omega (arith, line-longest n))
     pick false h k = omega arith
 
 -- a piece after a piece
-pub read-append : (n : Number) (xs ys : List ℕ) → readOn n (xs ++ ys) ≡ printing (readOn n xs .output) (readOn (readOn n xs .number) ys)
+pub read-append : (n : Number) (xs ys : List ℕ) → readOn n (xs ++ ys) ≡ outputBefore (readOn n xs .output) (readOn (readOn n xs .number) ys)
 unfolding readOn
 read-append n [] ys = refl
 read-append n (x ∷ xs) ys = pick (eqb x lineFeed) (read-append Blank xs ys) (read-append (withByte n x) xs ys)
@@ -49,57 +49,57 @@ read-append n (x ∷ xs) ys = pick (eqb x lineFeed) (read-append Blank xs ys) (r
     line = printedLine n
 
     at : Bool → List ℕ → Progress
-    at b zs = cond b (printing line (readOn Blank zs)) (readOn (withByte n x) zs)
+    at b zs = cond b (outputBefore line (readOn Blank zs)) (readOn (withByte n x) zs)
 
-    pick : (b : Bool) → readOn Blank (xs ++ ys) ≡ printing (readOn Blank xs .output) (readOn (readOn Blank xs .number) ys)
-        → readOn (withByte n x) (xs ++ ys) ≡ printing (readOn (withByte n x) xs .output) (readOn (readOn (withByte n x) xs .number) ys)
-        → at b (xs ++ ys) ≡ printing (at b xs .output) (readOn (at b xs .number) ys)
+    pick : (b : Bool) → readOn Blank (xs ++ ys) ≡ outputBefore (readOn Blank xs .output) (readOn (readOn Blank xs .number) ys)
+        → readOn (withByte n x) (xs ++ ys) ≡ outputBefore (readOn (withByte n x) xs .output) (readOn (readOn (withByte n x) xs .number) ys)
+        → at b (xs ++ ys) ≡ outputBefore (at b xs .output) (readOn (at b xs .number) ys)
     pick true e f =
-        ap (printing line) e
+        ap (outputBefore line) e
         ∙ ap (λ (o : List ℕ). record { number = readOn (readOn Blank xs .number) ys .number; output = o }) (sym (append-assoc line _ _))
     pick false e f = f
 
 -- a line feed, and any other byte
-pub read-feed : (n : Number) (byte : ℕ) → byte ≡ lineFeed → readOn n (byte ∷ []) ≡ record { number = Blank; output = printedLine n }
+pub read-line-feed : (n : Number) (byte : ℕ) → byte ≡ lineFeed → readOn n (byte ∷ []) ≡ record { number = Blank; output = printedLine n }
 unfolding readOn
-read-feed n byte e = rw (eq-eqb byte lineFeed e) (ap (λ (o : List ℕ). record { number = Blank; output = o }) (append-nil (printedLine n)))
+read-line-feed n byte e = rw (eq-eqb byte lineFeed e) (ap (λ (o : List ℕ). record { number = Blank; output = o }) (append-nil (printedLine n)))
 
 pub read-other : (n : Number) (byte : ℕ) → (byte ≡ lineFeed → ⊥) → readOn n (byte ∷ []) ≡ record { number = withByte n byte; output = [] }
 unfolding readOn
 read-other n byte ne = rw (ne-eqb byte lineFeed ne)
 
 -- the last line, if it has been begun
-last-begun : (d : Bool) (v : ℕ) → lastLine (fitted d v) ≡ printedLine (fitted d v)
+last-begun : (d : Bool) (v : ℕ) → printedLast (fitted d v) ≡ printedLine (fitted d v)
 last-begun d v = pick (d && ltb v (2 ^ 64))
   where
-    pick : (b : Bool) → lastLine (cond b (Value v) Invalid) ≡ printedLine (cond b (Value v) Invalid)
+    pick : (b : Bool) → printedLast (cond b (Value v) Invalid) ≡ printedLine (cond b (Value v) Invalid)
     pick true = refl
     pick false = refl
 
-last-printed : (begun : List ℕ) → lastLine (numberOf begun) ≡ allPrinted (lastLines begun)
+last-printed : (begun : List ℕ) → printedLast (numberIn begun) ≡ allPrinted (lastLines begun)
 unfolding allPrinted
 last-printed [] = refl
 last-printed (x ∷ xs) = last-begun (allDigits (x ∷ xs)) (valueOf (x ∷ xs)) ∙ sym (append-nil _)
 
 -- all that a text prints, from a number on
 abbrev whole : Number → List ℕ → List ℕ
-whole n text = readOn n text .output ++ lastLine (readOn n text .number)
+whole n text = readOn n text .output ++ printedLast (readOn n text .number)
 
 -- what is printed for a text of which this much of the first line has been read
-lines-printed : (text begun : List ℕ) → whole (numberOf begun) text ≡ allPrinted (linesFrom begun text)
+lines-printed : (text begun : List ℕ) → whole (numberIn begun) text ≡ allPrinted (linesFrom begun text)
 unfolding readOn linesFrom allPrinted
 lines-printed [] begun = last-printed begun
 lines-printed (byte ∷ text) begun = pick (eqb byte lineFeed) (lines-printed text []) (lines-printed text (begun ++ (byte ∷ [])))
   where
     n : Number
-    n = numberOf begun
+    n = numberIn begun
 
     at : Bool → Progress
-    at b = cond b (printing (printedLine n) (readOn Blank text)) (readOn (withByte n byte) text)
+    at b = cond b (outputBefore (printedLine n) (readOn Blank text)) (readOn (withByte n byte) text)
 
     pick : (b : Bool) → whole Blank text ≡ allPrinted (linesFrom [] text)
-        → whole (numberOf (begun ++ (byte ∷ []))) text ≡ allPrinted (linesFrom (begun ++ (byte ∷ [])) text)
-        → at b .output ++ lastLine (at b .number) ≡ allPrinted (cond b (begun ∷ linesFrom [] text) (linesFrom (begun ++ (byte ∷ [])) text))
+        → whole (numberIn (begun ++ (byte ∷ []))) text ≡ allPrinted (linesFrom (begun ++ (byte ∷ [])) text)
+        → at b .output ++ printedLast (at b .number) ≡ allPrinted (cond b (begun ∷ linesFrom [] text) (linesFrom (begun ++ (byte ∷ [])) text))
     pick true e f = append-assoc (printedLine n) _ _ ∙ ap (λ (o : List ℕ). printedLine n ++ o) e
     pick false e f = rw (← number-next begun byte) f
 
@@ -108,11 +108,35 @@ pieces-read : (pieces : List (List ℕ)) (n : Number) → readAll n pieces ≡ r
 unfolding readAll readOn joined
 pieces-read [] n = refl
 pieces-read (piece ∷ pieces) n =
-    ap (printing (readOn n piece .output)) (pieces-read pieces (readOn n piece .number)) ∙ sym (read-append n piece (joined pieces))
+    ap (outputBefore (readOn n piece .output)) (pieces-read pieces (readOn n piece .number)) ∙ sym (read-append n piece (joined pieces))
+
+-- what a buffer with room has at its start
+fed-printed : (n : Number) (piece buffer : List ℕ) → 22 * length piece ≤ length buffer
+    → let r = fedWith n piece buffer in
+    (r .fed .answer ≡ 0) × (r .fed .number ≡ readOn n piece .number) × (take (r .fed .length) (r .buffer) ≡ readOn n piece .output)
+unfolding fedWith
+fed-printed n piece buffer h =
+    rw (le-leb (22 * length piece) (length buffer) h) (refl, refl, take-append-seam (readOn n piece .output) _)
+
+last-longest : (n : Number) → length (printedLast n) ≤ 22
+last-longest Blank = omega arith
+last-longest Invalid = line-longest Invalid
+last-longest (Value w) = line-longest (Value w)
+
+last-finished : (n : Number) (buffer : List ℕ) → 22 ≤ length buffer
+    → let r = filledWith (printedLast n) buffer in (r .written .answer ≡ 0) × (take (r .written .length) (r .buffer) ≡ printedLast n)
+unfolding filledWith
+last-finished n buffer h =
+    rw (le-leb (length (printedLast n)) (length buffer) (omega (arith, last-longest n)))
+    (refl, take-append-seam (printedLast n) _)
 
 pub stream-claim : StreamClaim
-stream-claim pieces =
-    ap (λ (p : Progress). p .output ++ lastLine (p .number)) (pieces-read pieces Blank) ∙ lines-printed (joined pieces) []
+stream-claim = record {
+  fed = fed-printed;
+  finished = last-finished;
+  pieces = λ pieces.
+      ap (λ (p : Progress). p .output ++ printedLast (p .number)) (pieces-read pieces Blank) ∙ lines-printed (joined pieces) [];
+}
 
 -- a line put into a buffer, by a number that is known
 pub filled-by : (line : Number → List ℕ) (m n : Number) (buffer : List ℕ) (f : Filled) → m ≡ n → f ≡ filledWith (line n) buffer
@@ -125,7 +149,7 @@ module _ (n : Number) (piece buffer : List ℕ) where
   unfolding fedWith
   fed-short h = rw (lt-leb (22 * length piece) (length buffer) h)
 
-  pub fed-whole : (p : Progress) → 22 * length piece ≤ length buffer → readOn n piece ≡ p → fed p buffer ≡ fedWith n piece buffer
+  pub fed-whole : (p : Progress) → 22 * length piece ≤ length buffer → readOn n piece ≡ p → fedInto p buffer ≡ fedWith n piece buffer
   unfolding fedWith
   fed-whole p h e = rw (le-leb (22 * length piece) (length buffer) h, e)
 
@@ -134,7 +158,7 @@ module _ (n : Number) (piece buffer : List ℕ) where
   unfolding fedWith
   fed-within r after e = pick (leb (22 * length piece) (length buffer)) e
     where
-      pick : (b : Bool) → filling r after ≡ cond b (fed (readOn n piece) buffer) (filling (record { answer = 1; number = n; length = 0 }) buffer)
+      pick : (b : Bool) → filling r after ≡ cond b (fedInto (readOn n piece) buffer) (filling (record { answer = 1; number = n; length = 0 }) buffer)
           → r .length ≤ length after
       pick true f = rw (ap (λ (x : Filling). x .fed .length) f, ap (λ (x : Filling). x .buffer) f, length-append) (omega arith)
       pick false f = rw (ap (λ (x : Filling). x .fed .length) f) (omega arith)
@@ -194,7 +218,7 @@ module _ (n : Number) (piece buffer₀ : List ℕ) where
         lent = rw behind (take-all (length buffer - end) (drop end buffer₀) (omega (arith, rest)))
 
         module _ (e : filling r part ≡ fedWith read (byte ∷ []) (midOf end (length buffer - end) buffer)) where
-          known : filling r part ≡ fed next (drop end buffer₀)
+          known : filling r part ≡ fedInto next (drop end buffer₀)
           known =
               let w = end-within in
               let room-left : 22 ≤ length (drop end buffer₀) = omega (arith, rest, kept) in
@@ -206,10 +230,10 @@ module _ (n : Number) (piece buffer₀ : List ℕ) where
           part-is : part ≡ next .output ++ drop (length (next .output)) (drop end buffer₀)
           part-is = ap (λ (x : Filling). x .buffer) known
 
-          read-next : so-far (i + 1) ≡ printing (so-far i .output) next
+          read-next : so-far (i + 1) ≡ outputBefore (so-far i .output) next
           read-next =
               ap (readOn n) (taken-next piece i h) ∙ read-append n (take i piece) (byte ∷ [])
-              ∙ ap (λ (m : Number). printing (so-far i .output) (readOn m (byte ∷ []))) (sym (f .number))
+              ∙ ap (λ (m : Number). outputBefore (so-far i .output) (readOn m (byte ∷ []))) (sym (f .number))
 
           put-back : putMid end (length buffer - end) buffer part ≡ (so-far i .output ++ next .output) ++ drop (end + length (next .output)) buffer₀
           put-back =

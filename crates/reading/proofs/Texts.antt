@@ -39,7 +39,7 @@ nat-abs-neg : (n : ℕ) → natAbs (negℤ (pos n)) ≡ n
 nat-abs-neg zero = refl
 nat-abs-neg (suc n) = refl
 
--- the parts of a count are those of its magnitude: the division goes toward zero
+-- the parts of a places are those of its magnitude: the division goes toward zero
 pub whole-is : (z : ℤ) → wholePart z ≡ natAbs z / 10
 whole-is (pos n) = refl
 whole-is (negsuc n) = nat-abs-neg (suc n / 10)
@@ -70,35 +70,35 @@ no-sign word buffer h n = elim (decLt word (2 ^ 63)) [
 ]
 
 -- the digits, the point and the last digit, stored behind the sign
-module _ (sign buffer : List ℕ) (start count whole tenth : ℕ) (signs : length sign ≡ start)
-    (digits : count ≡ length (decimal whole)) (room : start + count + 2 ≤ length buffer) where
-  size : start + count - start ≡ count
+module _ (sign buffer : List ℕ) (start places whole tenth : ℕ) (signs : length sign ≡ start)
+    (digits : places ≡ length (decimal whole)) (room : start + places + 2 ≤ length buffer) where
+  size : start + places - start ≡ places
   size = omega arith
 
   module _ (first part : List ℕ) (e : first ≡ sign ++ drop start buffer)
-      (d : part ≡ lastDigits (length (midOf start (start + count - start) first)) whole) where
+      (d : part ≡ lastDigits (length (midOf start (start + places - start) first)) whole) where
     before : take start first ≡ sign
     before = rw e (take-at sign (drop start buffer) start signs)
 
     behind : drop start first ≡ drop start buffer
     behind = rw e (drop-at sign (drop start buffer) start signs)
 
-    mid-length : length (midOf start (start + count - start) first) ≡ count
-    mid-length = rw (size, behind) (length-take-le count (drop start buffer) (simp length-drop (omega arith)))
+    mid-length : length (midOf start (start + places - start) first) ≡ places
+    mid-length = rw (size, behind) (length-take-le places (drop start buffer) (simp length-drop (omega arith)))
 
     part-is : part ≡ decimal whole
     part-is = d ∙ ap (λ (n : ℕ). lastDigits n whole) (mid-length ∙ digits) ∙ last-all whole
 
-    put : putMid start (start + count - start) first part ≡ (sign ++ decimal whole) ++ drop (start + count) buffer
+    put : putMid start (start + places - start) first part ≡ (sign ++ decimal whole) ++ drop (start + places) buffer
     put = rw (size, before, behind, part-is, drop-drop) (sym (append-assoc sign (decimal whole) _))
 
-    pub stored : set (set (putMid start (start + count - start) first part) (start + count) point) (start + count + 1) tenth
-        ≡ (sign ++ (decimal whole ++ (point ∷ (tenth ∷ [])))) ++ drop (start + count + 2) buffer
+    pub stored : set (set (putMid start (start + places - start) first part) (start + places) point) (start + places + 1) tenth
+        ≡ (sign ++ (decimal whole ++ (point ∷ (tenth ∷ [])))) ++ drop (start + places + 2) buffer
     stored =
-        let end : length (sign ++ decimal whole) ≡ start + count = length-append sign (decimal whole) ∙ omega arith in
-        let left : 2 ≤ length (drop (start + count) buffer) = simp length-drop (omega arith) in
+        let end : length (sign ++ decimal whole) ≡ start + places = length-append sign (decimal whole) ∙ omega arith in
+        let left : 2 ≤ length (drop (start + places) buffer) = simp length-drop (omega arith) in
         rw put
-        (two-set (sign ++ decimal whole) (drop (start + count) buffer) (start + count) point tenth end left ∙ simp (drop-drop, append-assoc))
+        (two-set (sign ++ decimal whole) (drop (start + places) buffer) (start + places) point tenth end left ∙ simp (drop-drop, append-assoc))
 
 -- a text has 3 to 21 bytes
 whole-small : (word : ℕ) → wholePart (signed word) < 10 ^ 18

@@ -13,7 +13,7 @@ use lib.Seq.{take-append-seam}
 use Rattle.formats.specs.declared.Number.{Number}
 use Rattle.formats.specs.declared.Number.the-variants.{Blank, Value, Invalid}
 use Rattle.formats.specs.Decimal.{digit, digitsBy, decimal}
-use Rattle.formats.specs.Number.{numberOf, withByte, onlyDigits}
+use Rattle.formats.specs.Number.{numberIn, withByte, onlyDigits}
 use Rattle.formats.specs.Written.{filledWith}
 use Rattle.formats.proofs.Decimals.{by-tens, decimal-one, decimal-more}
 use Rattle.formats.proofs.DecimalNumbers.{number-decimal, digit-next, only-decimal, is-digit}
@@ -44,11 +44,11 @@ digits-of z = simp (only-append, sign-digits, only-decimal, last-digits (tenthPa
 count-is : (z : ℤ) → 10 * wholePart z + tenthPart z ≡ natAbs z
 count-is z = rw (whole-is z, tenth-is z) (omega arith)
 
-count-read : (z : ℤ) → natAbs z < 2 ^ 64 → numberOf (onlyDigits (countText z)) ≡ Value (natAbs z)
+count-read : (z : ℤ) → natAbs z < 2 ^ 64 → numberIn (onlyDigits (countText z)) ≡ Value (natAbs z)
 count-read z h =
     let e = count-is z in
     let small = tenth-small z in
-    ap numberOf (digits-of z) ∙ number-next (decimal (wholePart z)) (digit (tenthPart z))
+    ap numberIn (digits-of z) ∙ number-next (decimal (wholePart z)) (digit (tenthPart z))
     ∙ ap (λ (n : Number). withByte n (digit (tenthPart z))) (number-decimal (wholePart z) (omega arith))
     ∙ digit-next (wholePart z) (tenthPart z) small (omega arith) ∙ ap Value e
 
@@ -57,14 +57,14 @@ isNegative (pos n) = false
 isNegative (negsuc n) = true
 
 -- a minus stands in front of a count below zero alone
-no-minus : (n : ℕ) (ys : List ℕ) → hasMinus (decimal n ++ ys) ≡ false
-no-minus = by-tens (λ n. (ys : List ℕ) → hasMinus (decimal n ++ ys) ≡ false)
+digit-first : (n : ℕ) (ys : List ℕ) → hasMinus (decimal n ++ ys) ≡ false
+digit-first = by-tens (λ n. (ys : List ℕ) → hasMinus (decimal n ++ ys) ≡ false)
     (λ n h ys. rw (decimal-one n h) (ne-eqb (48 + n) minus (λ e. omega arith)))
     (λ n h ih ys. rw (decimal-more n h, append-assoc) (ih _))
 
 minus-of : (z : ℤ) → hasMinus (countText z) ≡ isNegative z
 unfolding countText
-minus-of (pos n) = no-minus (wholePart (pos n)) _
+minus-of (pos n) = digit-first (wholePart (pos n)) _
 minus-of (negsuc n) = refl
 
 module _ (w : ℕ) (h : w < 2 ^ 64) where
@@ -74,7 +74,7 @@ module _ (w : ℕ) (h : w < 2 ^ 64) where
     | no q ↦ rw (signed-high w (omega arith)) (omega arith)
   ]
 
-  text-read : numberOf (onlyDigits (textOf w)) ≡ Value (natAbs (signed w))
+  text-read : numberIn (onlyDigits (textOf w)) ≡ Value (natAbs (signed w))
   text-read = count-read (signed w) magnitude
 
   word-back : wordFor (hasMinus (textOf w)) (natAbs (signed w)) ≡ w
@@ -98,7 +98,7 @@ word-fits false v h = h
 
 module _ (text : List ℕ) where
   -- a text is refused, or is that of a word below 2^64
-  read-cases : (n : Number) → numberOf (onlyDigits text) ≡ n
+  read-cases : (n : Number) → numberIn (onlyDigits text) ≡ n
       → (parsedBy n text ≡ noWord) ⊎ ((w : ℕ) × (w < 2 ^ 64) × (textOf w ≡ text) × (parsedBy n text ≡ accepted w))
   read-cases Blank e = inl refl
   read-cases Invalid e = inl refl
@@ -119,11 +119,11 @@ module _ (text : List ℕ) where
       (λ p.
       let same : p .0 ≡ w = ap (λ (x : Parsed). x .word) (sym (p .3) ∙ e) in
       (rw same at (p .1), rw same at (p .2)))
-      (read-cases (numberOf (onlyDigits text)) refl)
+      (read-cases (numberIn (onlyDigits text)) refl)
 
   pub refused : ((w : ℕ) → w < 2 ^ 64 → textOf w ≡ text → ⊥) → parsedOf text ≡ noWord
   unfolding parsedOf
-  refused none = ⊎-elim (λ e. e) (λ p. absurd (none (p .0) (p .1) (p .2))) (read-cases (numberOf (onlyDigits text)) refl)
+  refused none = ⊎-elim (λ e. e) (λ p. absurd (none (p .0) (p .1) (p .2))) (read-cases (numberIn (onlyDigits text)) refl)
 
 -- the text in a buffer that had room for it
 printed-back : (w : ℕ) → w < 2 ^ 64 → (buffer text : List ℕ) → Printed w buffer text → parsedOf text ≡ accepted w

@@ -1,11 +1,12 @@
 -- What a user can rely on of readings: a printed one leads back to its word, and a text may be read in any pieces.
-use Prim.Native.Nat.{ℕ, _^_, _≤_, _<_}
+use Prim.Native.Nat.{ℕ, _*_, _^_, _≤_, _<_}
 use mathlib.Core.Path.{_≡_}
 use mathlib.Core.List.{List, [], _∷_, _++_}
 use lib.ListN.{length, take}
+use Rattle.formats.specs.declared.Number.{Number}
 use Rattle.formats.specs.declared.Number.the-variants.{Blank}
 use Rattle.formats.specs.Written.{filledWith}
-use Rattle.reading.specs.Stream.{readingsOf, lastLine, readAll}
+use Rattle.reading.specs.Stream.{readingsOf, readOn, printedLast, readAll, fedWith}
 use Rattle.reading.specs.Text.{textOf, accepted, noWord, parsedOf}
 
 -- the text that `print` puts into a buffer with room for it
@@ -29,9 +30,17 @@ unfoldable pub joined : List (List ℕ) → List ℕ
 joined [] = []
 joined (piece ∷ pieces) = piece ++ joined pieces
 
--- however a text is cut into pieces, what `feed` prints for them one after the other, and `finish` at the end, is what
--- the text's lines print
-abbrev pub StreamClaim : Type 0
-StreamClaim =
-    (pieces : List (List ℕ))
-    → readAll Blank pieces .output ++ lastLine (readAll Blank pieces .number) ≡ readingsOf (joined pieces)
+pub record StreamClaim : Type 0 where
+  -- `feed`, lent a buffer with room, hands back what is defined for its piece, at the buffer's start what is printed
+  pub fed : (n : Number) (piece buffer : List ℕ) → 22 * length piece ≤ length buffer
+      → let r = fedWith n piece buffer in
+      (r .fed .answer ≡ 0) × (r .fed .number ≡ readOn n piece .number) ×
+      (take (r .fed .length) (r .buffer) ≡ readOn n piece .output)
+  -- so does `finish`
+  pub finished : (n : Number) (buffer : List ℕ) → 22 ≤ length buffer
+      → let r = filledWith (printedLast n) buffer in
+      (r .written .answer ≡ 0) × (take (r .written .length) (r .buffer) ≡ printedLast n)
+  -- and however a text is cut into pieces, what is printed for them one after the other and at the end is what the text's
+  -- lines print
+  pub pieces : (pieces : List (List ℕ))
+      → readAll Blank pieces .output ++ printedLast (readAll Blank pieces .number) ≡ readingsOf (joined pieces)

@@ -8,7 +8,7 @@ use lib.Signed.{quotZ, remZ}
 use Rattle.formats.specs.declared.Number.{Number}
 use Rattle.formats.specs.declared.Number.the-variants.{Blank, Value, Invalid}
 use Rattle.formats.specs.Decimal.{digit, decimal}
-use Rattle.formats.specs.Number.{numberOf, onlyDigits}
+use Rattle.formats.specs.Number.{numberIn, onlyDigits}
 use Rattle.reading.specs.declared.Parsed.{Parsed}
 
 -- the count that a word below 2^64 holds; `negsuc n` is -(n + 1)
@@ -47,10 +47,10 @@ abbrev pub hasMinus : List ℕ → Bool
 hasMinus [] = false
 hasMinus (byte ∷ bytes) = eqb byte minus
 
--- the word of a count, given without its sign
+-- the word of a count, by whether it is below zero, and its magnitude
 abbrev pub wordFor : Bool → ℕ → ℕ
-wordFor true count = (2 ^ 64 - count) % 2 ^ 64
-wordFor false count = count
+wordFor true magnitude = (2 ^ 64 - magnitude) % 2 ^ 64
+wordFor false magnitude = magnitude
 
 unfoldable pub sameBytes : List ℕ → List ℕ → Bool
 sameBytes [] [] = true
@@ -74,9 +74,10 @@ readAs word text = cond (sameBytes (textOf word) text) (accepted word) noWord
 
 abbrev pub parsedBy : Number → List ℕ → Parsed
 parsedBy Blank text = noWord
-parsedBy (Value count) text = readAs (wordFor (hasMinus text) count) text
+parsedBy (Value magnitude) text = readAs (wordFor (hasMinus text) magnitude) text
 parsedBy Invalid text = noWord
 
--- "A printed reading leads back to its word": a text's digits, read as one count, leave one word that it can be of
+-- "A printed reading leads back to its word": a text's digits, read as one magnitude, leave one word that it
+-- can be of
 unfoldable pub parsedOf : List ℕ → Parsed
-parsedOf text = parsedBy (numberOf (onlyDigits text)) text
+parsedOf text = parsedBy (numberIn (onlyDigits text)) text

@@ -9,7 +9,7 @@ use formats::MALFORMED;
 use formats::Number;
 
 // The answer to a text that no word has.
-fn unread() -> Parsed
+fn no_word() -> Parsed
     ensures { λ (r : Parsed). ⌜ r ≡ noWord ⌝ }
 {
     Parsed {
@@ -27,14 +27,14 @@ fn has_minus(text: &[u8]) -> bool
     text[0] == b'-'
 }
 
-// The word of a count, given without its sign.
-fn word_for(negative: bool, count: u64) -> u64
-    ensures { λ r. ⌜ r ≡ wordFor negative count ⌝ }
+// The word of a count, given by its sign and its magnitude.
+fn word_for(negative: bool, magnitude: u64) -> u64
+    ensures { λ r. ⌜ r ≡ wordFor negative magnitude ⌝ }
 {
     if negative {
-        std::num::wrapping_sub_u64(0, count)
+        std::num::wrapping_sub_u64(0, magnitude)
     } else {
-        count
+        magnitude
     }
 }
 
@@ -47,7 +47,7 @@ fn read_as(word: u64, text: &[u8]) -> Parsed
     if check::same(&own[..n], text) {
         Parsed { answer: DONE, word }
     } else {
-        unread()
+        no_word()
     }
 }
 
@@ -56,8 +56,8 @@ pub fn parse(text: &[u8]) -> Parsed
     ensures { λ (r : Parsed). ⌜ r ≡ parsedOf (now (text .entry)) ⌝ }
 {
     match formats::number_of_digits(text) {
-        Number::Blank => unread(),
-        Number::Value(count) => read_as(word_for(has_minus(text), count), text),
-        Number::Invalid => unread(),
+        Number::Blank => no_word(),
+        Number::Value(magnitude) => read_as(word_for(has_minus(text), magnitude), text),
+        Number::Invalid => no_word(),
     }
 }

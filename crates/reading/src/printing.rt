@@ -7,21 +7,21 @@ use formats::DONE;
 use formats::SIZE;
 use formats::Written;
 
-// The words from here on hold counts below zero.
-const NEGATIVE: u64 = 9223372036854775808;
+// The highest bit of a word: counts below zero have it.
+const SIGN_BIT: u64 = 9223372036854775808;
 
 // The count of tenths that a word holds. Below zero it is made from the word's complement, which is 0 for -1.
 fn tenths_of(word: u64) -> i64
     ensures { λ r. ⌜ r ≡ signed word ⌝ }
 {
-    if word < NEGATIVE {
+    if word < SIGN_BIT {
         word as i64
     } else {
         -1 - (u64::MAX - word) as i64
     }
 }
 
-// A number without its sign. The smallest i64 has no negation, but its complement fits, and so does one more as a u64.
+// A number without its sign, for every i64: below zero its complement is not, and one more fits a u64.
 fn magnitude(number: i64) -> u64
     ensures { λ r. ⌜ r ≡ natAbs number ⌝ }
 {
@@ -32,6 +32,7 @@ fn magnitude(number: i64) -> u64
     }
 }
 
+// A count has its sign dropped only after the division: the smallest one has no negation, and its parts have.
 fn whole_part(tenths: i64) -> u64
     ensures { λ r. ⌜ r ≡ wholePart tenths ⌝ }
 {
@@ -50,7 +51,8 @@ pub fn print(word: u64, text: &mut [u8]) -> Written
 {
     let tenths = tenths_of(word);
     let whole = whole_part(tenths);
-    let start = (word / NEGATIVE) as usize;
+    // The sign takes one byte or none.
+    let start = (word / SIGN_BIT) as usize;
     let end = start + formats::decimal_length(whole);
     if text.len() < end + 2 {
         return Written {

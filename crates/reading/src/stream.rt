@@ -2,7 +2,7 @@
 ghost use mathlib.Core.Path.{_≡_};
 ghost use mathlib.Core.List.{[], _∷_};
 ghost use Rattle.formats.specs.Written.{filled, filledWith};
-ghost use Rattle.reading.specs.Stream.{printedLine, lastLine, filling, fedWith};
+ghost use Rattle.reading.specs.Stream.{printedLine, printedLast, filling, fedWith};
 use crate::Fed;
 use crate::LINE;
 use crate::print;
@@ -62,8 +62,8 @@ fn feed_byte(number: Number, byte: u8, buffer: &mut [u8]) -> Fed
     }
 }
 
-// Reads a piece of the text on, the last line of which has this number so far, and puts the lines that are printed for
-// it into the buffer.
+// Reads the next piece of a text; `number` is what the pieces before have left of their last line. A line is printed
+// into the buffer for each that ends here. The buffer needs LINE bytes for each byte of the piece.
 pub fn feed(number: Number, piece: &[u8], buffer: &mut [u8]) -> Fed
     ensures { λ (r : Fed). ⌜ filling r (now (buffer .exit))
         ≡ fedWith number (now (piece .entry)) (now (buffer .entry)) ⌝ }
@@ -93,7 +93,7 @@ pub fn feed(number: Number, piece: &[u8], buffer: &mut [u8]) -> Fed
 
 // Ends the text: puts the line for a last line that lacks its line feed into the buffer.
 pub fn finish(number: Number, buffer: &mut [u8]) -> Written
-    ensures { λ (r : Written). ⌜ filled r (now (buffer .exit)) ≡ filledWith (lastLine number) (now (buffer .entry)) ⌝ }
+    ensures { λ (r : Written). ⌜ filled r (now (buffer .exit)) ≡ filledWith (printedLast number) (now (buffer .entry)) ⌝ }
 {
     match number {
         Number::Blank => Written {

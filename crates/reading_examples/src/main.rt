@@ -1,4 +1,4 @@
-// The worked examples of document 02, [2]: each word printed into a buffer of '#' bytes, and read back.
+// Worked examples of request [2]: each word printed into a buffer of '#' bytes, and read back.
 use libc::STDOUT_FILENO;
 
 const COUNT: usize = 28;

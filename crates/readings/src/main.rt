@@ -1,5 +1,6 @@
 // Reads words from standard input, one decimal number to a line, and prints the reading of each on a line; for a line
-// that is no number from 0 to 2^64 - 1 it prints 18. A text of any length, in constant memory.
+// that is no number from 0 to 2^64 - 1 it prints 18. A text of any length, in constant memory. Where a read or a write
+// fails it says so and stops, and a line that was read in part isn't printed.
 use formats::Number;
 use libc::STDIN_FILENO;
 use libc::STDOUT_FILENO;
@@ -15,9 +16,21 @@ struct Turn {
     number: Number,
 }
 
+// A call failed: no more is read or printed.
+fn failed(name: &[u8]) -> Turn {
+    os::fail(name);
+    Turn {
+        more: false,
+        number: Number::Blank,
+    }
+}
+
 // Reads a piece of the text, and writes what is printed for it.
 fn read_piece(number: Number, piece: &mut [u8], output: &mut [u8]) -> Turn {
     let got = libc::read(STDIN_FILENO, piece);
+    if got < 0 {
+        return failed(b"standard input");
+    }
     let n = io::count(got, piece);
     if n == 0 {
         return Turn {
@@ -28,8 +41,13 @@ fn read_piece(number: Number, piece: &mut [u8], output: &mut [u8]) -> Turn {
     let fed = reading::feed(number, &piece[..n], output);
     let length = fed.length;
     let next = fed.number;
-    let more = io::write_all(STDOUT_FILENO, &output[..length]);
-    Turn { more, number: next }
+    if !io::write_all(STDOUT_FILENO, &output[..length]) {
+        return failed(b"standard output");
+    }
+    Turn {
+        more: true,
+        number: next,
+    }
 }
 
 // A proved loop has to end, and nothing says that a text does: the turns are counted down from a number that no run

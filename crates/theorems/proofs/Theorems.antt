@@ -44,7 +44,8 @@ worked-scenarios = table.scenarios-pass
 pub readings-lead-back : ReadingClaim
 readings-lead-back = reading.reading-claim
 
--- A text of words, one to a line, may be read in any pieces: the readings printed are those of its lines.
+-- A text of words, one to a line, may be read in any pieces, into buffers with room: the readings printed are those of
+-- its lines.
 pub readings-in-pieces : StreamClaim
 readings-in-pieces = stream.stream-claim
 

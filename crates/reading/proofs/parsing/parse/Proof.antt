@@ -17,19 +17,19 @@ by-digits c n r e f =
     f ∙ sym (ap (λ (x : Number). parsedBy x (c .before .before .args .text .now)) (sym (c .number-of-digits .ensures) ∙ e))
 
 returns : tie.Need-returns
-returns c = by-digits (c .before .before .before) _ _ (c .before .enum-told .given .1) (c .unread .ensures)
+returns c = by-digits (c .before .before .before) _ _ (c .before .enum-told .given .1) (c .no-word .ensures)
 
 returns-2 : tie.Need-returns-2
 returns-2 c =
     let told = c .before .before .before in
     let d = told .before .before .before in
-    let count = told .before .count .given .0 .0 in
-    let word = c .before .word-for .ensures ∙ ap (λ (b : Bool). wordFor b count) (c .before .before .has-minus .ensures) in
-    by-digits d _ _ (told .before .count .given .1)
+    let magnitude = told .before .magnitude .given .0 .0 in
+    let word = c .before .word-for .ensures ∙ ap (λ (b : Bool). wordFor b magnitude) (c .before .before .has-minus .ensures) in
+    by-digits d _ _ (told .before .magnitude .given .1)
     (c .read-as .ensures ∙ ap (λ (w : ℕ). readAs w (d .before .before .args .text .now)) word)
 
 returns-3 : tie.Need-returns-3
-returns-3 c = by-digits (c .before .before .before) _ _ (c .before .enum-told2 .given .1) (c .unread2 .ensures)
+returns-3 c = by-digits (c .before .before .before) _ _ (c .before .enum-told2 .given .1) (c .no-word2 .ensures)
 
 pub parse-spec : {M : Type 1} → statement M
 parse-spec =

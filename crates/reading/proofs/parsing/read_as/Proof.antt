@@ -39,7 +39,7 @@ returns : tie.Need-returns
 returns c = rw (← compared (c .before), c .if1 .taken)
 
 returns-2 : tie.Need-returns-2
-returns-2 c = rw (← compared (c .before .before), c .before .if1 .left) (c .unread .ensures)
+returns-2 c = rw (← compared (c .before .before), c .before .if1 .left) (c .no-word .ensures)
 
 pub read-as-spec : {M : Type 1} → statement M
 read-as-spec =

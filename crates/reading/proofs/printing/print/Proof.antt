@@ -18,11 +18,11 @@ use Rattle.reading.proofs.printing.print.Statement.{statement}
 use Rattle.reading.proofs.printing.print.Tie as tie
 
 -- the count, as the calls after it are handed it
-count : (c : tie.After-tenths-of) → toZ w64 (ofZ w64 (c .tenths-of .result)) ≡ signed (c .before .before .args .word)
-count c = toZ-ofZ w64 (c .tenths-of .result) (record { sfits = c .tenths-of .ok }) ∙ c .tenths-of .ensures
+tenths-read : (c : tie.After-tenths-of) → toZ w64 (ofZ w64 (c .tenths-of .result)) ≡ signed (c .before .before .args .word)
+tenths-read c = toZ-ofZ w64 (c .tenths-of .result) (record { sfits = c .tenths-of .ok }) ∙ c .tenths-of .ensures
 
 whole : (c : tie.After-whole-part) → c .whole-part .result ≡ wholePart (signed (c .before .before .before .args .word))
-whole c = c .whole-part .ensures ∙ ap wholePart (count (c .before))
+whole c = c .whole-part .ensures ∙ ap wholePart (tenths-read (c .before))
 
 -- how many digits it has, and the text's length by that
 digits : (c : tie.After-decimal-length)
@@ -77,7 +77,7 @@ tenth : (c : tie.After-last-digit)
 tenth c =
     let counted = c .before .before .before .before .before .before .before .before .before .before in
     c .last-digit .ensures
-    ∙ ap (λ (n : ℕ). digit (n % 10)) (c .before .tenth-part .ensures ∙ ap tenthPart (count counted))
+    ∙ ap (λ (n : ℕ). digit (n % 10)) (c .before .tenth-part .ensures ∙ ap tenthPart (tenths-read counted))
     ∙ ap digit (mod-eq-of-lt (tenth-small (signed (counted .before .before .args .word))))
 
 returns-2 : tie.Need-returns-2
@@ -88,9 +88,9 @@ returns-2 c =
     let start = measured .before .before .before .before in
     let word = start .args .word in
     let f = start .fits .word .fits in
-    let count = measured .decimal-length .result in
-    filled-whole (textOf word) (start .args .text .now) (word / 2 ^ 63 + count + 2) _ (text-size measured) (omega arith)
-    (rw (tenth c) (stored (signOf (signed word)) (start .args .text .now) (word / 2 ^ 63) count (wholePart (signed word)) (digit (tenthPart (signed word)))
+    let places = measured .decimal-length .result in
+    filled-whole (textOf word) (start .args .text .now) (word / 2 ^ 63 + places + 2) _ (text-size measured) (omega arith)
+    (rw (tenth c) (stored (signOf (signed word)) (start .args .text .now) (word / 2 ^ 63) places (wholePart (signed word)) (digit (tenthPart (signed word)))
     (sign-length word f) (digits measured) (omega arith) (joined .if2 .text) _ (signed-buffer joined)
     (c .before .before .before .before .fill-decimal .ensures ∙ ap (lastDigits _) (whole (measured .before)))))
 

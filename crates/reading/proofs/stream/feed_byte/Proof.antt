@@ -3,11 +3,10 @@ use mathlib.Core.Path.{ap}
 use mathlib.Core.List.{[], _∷_}
 use native.Mathlib.Omega.{arith}
 use borrow.Author.Needs.{needs}
-use lib.ListN.{length}
 use Rattle.formats.specs.declared.Written.{Written}
 use Rattle.formats.proofs.Buffers.{filled-known}
 use Rattle.reading.specs.Stream.{printedLine}
-use Rattle.reading.proofs.Streams.{line-longest, read-feed, read-other, fed-short, fed-whole}
+use Rattle.reading.proofs.Streams.{line-longest, read-line-feed, read-other, fed-short, fed-whole}
 use Rattle.reading.proofs.stream.feed_byte.Statement.{statement}
 use Rattle.reading.proofs.stream.feed_byte.Tie as tie
 
@@ -25,7 +24,7 @@ returns-2 c =
     filled-known (printedLine (a .number)) (a .buffer .now) (put .put-line .result) (put .put-line .last .1 .0) (omega arith)
     (put .put-line .ensures) in
     rw (ap (λ (w : Written). w .length) (known .0), known .1)
-    (fed-whole (a .number) (a .byte ∷ []) (a .buffer .now) _ (omega arith) (read-feed (a .number) (a .byte) (put .before .before .if2 .taken)))
+    (fed-whole (a .number) (a .byte ∷ []) (a .buffer .now) _ (omega arith) (read-line-feed (a .number) (a .byte) (put .before .before .if2 .taken)))
 
 returns-3 : tie.Need-returns-3
 returns-3 c =

@@ -40,7 +40,7 @@ pub record StreamClaim : Type 0 where
   pub finished : (n : Number) (buffer : List ℕ) → 22 ≤ length buffer
       → let r = filledWith (printedLast n) buffer in
       (r .written .answer ≡ 0) × (take (r .written .length) (r .buffer) ≡ printedLast n)
-  -- and however a text is cut into pieces, what is printed for them one after the other and at the end is what the text's
-  -- lines print
+  -- and however a text is cut into pieces, what is printed for them one after the other and at the end is what the
+  -- text's lines print
   pub pieces : (pieces : List (List ℕ))
       → readAll Blank pieces .output ++ printedLast (readAll Blank pieces .number) ≡ readingsOf (joined pieces)

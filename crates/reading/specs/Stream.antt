@@ -44,7 +44,8 @@ outputBefore first p = record { number = p .number; output = first ++ p .output 
 unfoldable pub readOn : Number → List ℕ → Progress
 readOn number [] = record { number = number; output = [] }
 readOn number (byte ∷ bytes) =
-    cond (eqb byte lineFeed) (outputBefore (printedLine number) (readOn Blank bytes)) (readOn (withByte number byte) bytes)
+    cond (eqb byte lineFeed) (outputBefore (printedLine number) (readOn Blank bytes))
+    (readOn (withByte number byte) bytes)
 
 -- what is printed at the end of the text, for a last line that lacks its line feed
 abbrev pub printedLast : Number → List ℕ

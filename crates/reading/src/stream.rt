@@ -93,7 +93,8 @@ pub fn feed(number: Number, piece: &[u8], buffer: &mut [u8]) -> Fed
 
 // Ends the text: puts the line for a last line that lacks its line feed into the buffer.
 pub fn finish(number: Number, buffer: &mut [u8]) -> Written
-    ensures { λ (r : Written). ⌜ filled r (now (buffer .exit)) ≡ filledWith (printedLast number) (now (buffer .entry)) ⌝ }
+    ensures { λ (r : Written). ⌜ filled r (now (buffer .exit))
+        ≡ filledWith (printedLast number) (now (buffer .entry)) ⌝ }
 {
     match number {
         Number::Blank => Written {

@@ -1,5 +1,6 @@
 // The two log buffers, and what is done to them: entries taken out, found, added and logged. What is logged is appended
 // under the supply, and what is left of it is handed back.
+#![tactic(auto)]
 
 mod adding;
 mod filling;
@@ -22,7 +23,7 @@ pub use marking::mark_logged;
 
 // The undo+redo buffer: up to 16 entries, by their fields, oldest first; an entry's key is its thread and word. Places
 // from `len` on are not in use.
-#[derive(Drop)]
+#[derive(Clone, Copy)]
 pub struct UndoBuffer {
     pub undos: [u64; 16],
     pub redos: [u64; 16],
@@ -31,7 +32,7 @@ pub struct UndoBuffer {
 }
 
 // The redo buffer: up to 32 entries, in the same way. A redo entry has no undo.
-#[derive(Drop)]
+#[derive(Clone, Copy)]
 pub struct RedoBuffer {
     pub redos: [u64; 32],
     pub len: usize,

@@ -1,4 +1,6 @@
 // The store, and readings, for programs in other languages: include/rukwetid.h declares them for C.
+#![tactic(auto)]
+
 mod readings;
 
 ghost use Rattle.std.specs.Prelude.{◌≡◌};

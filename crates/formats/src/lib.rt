@@ -1,4 +1,6 @@
 // What the formats share: decimal numbers as text and read back from it, and texts in lent buffers.
+#![tactic(auto)]
+
 mod digits;
 mod numerals;
 mod putting;
@@ -15,14 +17,14 @@ pub const SIZE: u64 = 1;
 pub const MALFORMED: u64 = 18;
 
 // What putting a text into a lent buffer answers: 0 and the text's length, or 1 and 0 where the buffer is too short.
-#[derive(Drop)]
+#[derive(Clone, Copy)]
 pub struct Written {
     pub answer: u64,
     pub length: usize,
 }
 
 // What has been read of a number: nothing yet, digits with this value, or what is no number of 64 bits.
-#[derive(Drop)]
+#[derive(Clone, Copy)]
 pub enum Number {
     Blank,
     Value(u64),

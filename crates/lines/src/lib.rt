@@ -1,5 +1,7 @@
 // The lines, and what is done to them: claimed, the two-bit states of their words read and replaced, Dirty words looked
 // for, ULog words counted and logged, lines stored home and released.
+#![tactic(auto)]
+
 ghost use Rattle.std.specs.Prelude.{◌≡◌};
 ghost use Rattle.lines.specs.Lines.{free_lines};
 
@@ -25,7 +27,7 @@ pub use word_states::{
 pub const NOBODY: u8 = 255;
 
 // Up to 64 lines, by their fields.
-#[derive(Drop)]
+#[derive(Clone, Copy)]
 pub struct Lines {
     pub holders: [u8; 64],
     pub dirty: [bool; 64],

@@ -9,7 +9,7 @@ use crate::U_LOG;
 use log_region::{NUMBERS, Record};
 
 // Where appending has come to: the number of the next record, and what is left of the supply.
-#[derive(Drop)]
+#[derive(Clone, Copy)]
 struct Progress {
     number: u64,
     left: u64,

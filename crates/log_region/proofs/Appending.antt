@@ -209,5 +209,5 @@ appends {words} {l} {head} {log} {rs} holds (r ∷ new) fine room below c =
           let n : head + length (rs ++ (r ∷ [])) ≡ next + 1 = omega arith in
           let one : Holds words l (stored log (record_stores l next r)) head (rs ++ (r ∷ [])) = appended holds r fine.0 (omega arith) (omega arith) in
           rw (stores-many l next c r new log (omega arith) (omega arith) (omega arith), q)
-          (rw (n, append_assoc) at (appends one new fine.1 (omega arith) (omega arith) (c - 3)))
+          (rw (n, append_assoc) at (appends {log = stored log (record_stores l next r)} one new fine.1 (omega arith) (omega arith) (c - 3)))
     ]

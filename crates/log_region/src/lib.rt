@@ -1,5 +1,7 @@
 // The log region: records written to the layout of document 01 and read back from it, whether one is there, and the
 // head. What the crates above know of it are its laws on the list of records that a region holds (proofs/).
+#![tactic(auto)]
+
 mod region;
 mod slot;
 
@@ -8,7 +10,7 @@ pub use slot::store;
 
 // A log record by its type. Every value has a layout; one with a thread above 7 or a word not below W reads back as
 // bad.
-#[derive(Drop)]
+#[derive(Clone, Copy)]
 pub enum Record {
     UndoRedo {
         thread: u8,
@@ -27,7 +29,7 @@ pub enum Record {
 }
 
 // What reading the three words of a slot back gives.
-#[derive(Drop)]
+#[derive(Clone, Copy)]
 pub enum Reading {
     Good(Record),
     Bad,

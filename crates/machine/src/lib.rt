@@ -1,17 +1,19 @@
 // The step machine of document 01: its state, with a method for each of the nine steps and one for a step given as a
 // value. Each hands back what the model's definition of the step gives.
+#![tactic(auto)]
+
 use state::Machine;
 
 mod methods;
 
 // The state. The steps themselves are functions of the machine in it, in crate `steps`.
-#[derive(Drop)]
+#[derive(Clone, Copy)]
 pub struct State {
     pub machine: Machine,
 }
 
 // What a step hands back: the answer's number, the count left, and the state.
-#[derive(Drop)]
+#[derive(Clone, Copy)]
 pub struct Answer {
     pub answer: u64,
     pub left: u64,
@@ -19,7 +21,7 @@ pub struct Answer {
 }
 
 // What begin hands back, which is lent no count: the answer's number, and the state.
-#[derive(Drop)]
+#[derive(Clone, Copy)]
 pub struct Begun {
     pub answer: u64,
     pub state: State,

@@ -1,7 +1,8 @@
 // The types that the model names: an entry, a line, a step, the verdict on the oldest record.
+#![tactic(auto)]
 
 // An entry that waits to be logged. A redo entry's undo is 0.
-#[derive(Drop)]
+#[derive(Clone, Copy)]
 pub struct Entry {
     pub thread: u8,
     pub word: u16,
@@ -10,7 +11,7 @@ pub struct Entry {
 }
 
 // What the state keeps of a line of eight words.
-#[derive(Drop)]
+#[derive(Clone, Copy)]
 pub struct Line {
     pub holder: u8,
     pub dirty: bool,
@@ -18,7 +19,7 @@ pub struct Line {
 }
 
 // One of the nine steps.
-#[derive(Drop)]
+#[derive(Clone, Copy)]
 pub enum Step {
     Begin { thread: u64 },
     Store { thread: u64, word: u64, value: u64 },
@@ -33,7 +34,7 @@ pub enum Step {
 
 // The verdict on the oldest record of a log: there is none, it is bad, its transaction is open, its line needs it, or
 // it may be deleted.
-#[derive(Drop)]
+#[derive(Clone, Copy)]
 pub enum Verdict {
     Nothing,
     Damaged,

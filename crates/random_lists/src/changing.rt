@@ -66,7 +66,7 @@ fn threads(mut state: Machine, case: u64, threads: u64, b: u64) -> Machine {
 }
 
 // The keys of a buffer's entries
-#[derive(Drop)]
+#[derive(Clone, Copy)]
 struct Keys {
     len: usize,
     keys: [u16; 32],

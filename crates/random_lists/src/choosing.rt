@@ -6,7 +6,7 @@ use crate::wrapping::{MAX, either, minus, one_of, rest, sum};
 
 // A run of steps of one kind, this step with its kind k, thread t, word or line p, value v and supply count c, and the
 // generator's x.
-#[derive(Drop)]
+#[derive(Clone, Copy)]
 pub struct Run {
     pub x: u64,
     pub at: u64,

@@ -13,7 +13,7 @@ const NONE: u64 = 30;
 const NO_PATCH: u64 = MAX;
 
 // `forced`, `case`, `a` and `b` are those of this step. The patch is (i, old, new). x is the generator's.
-#[derive(Drop)]
+#[derive(Clone, Copy)]
 pub struct Disturbance {
     pub x: u64,
     pub mend: u64,

@@ -4,7 +4,7 @@ use crate::wrapping::{one_of, rest, sum};
 pub const GOLD: u64 = 0x9e37_79b9_7f4a_7c15;
 
 // The new x, and the result r
-#[derive(Drop)]
+#[derive(Clone, Copy)]
 pub struct Drawn {
     pub x: u64,
     pub r: u64,

@@ -12,7 +12,7 @@ use machine::{Answer, State};
 use state::CUT;
 
 // The digest of the lists so far, their steps, and how often each answer was given, 255 at 18
-#[derive(Drop)]
+#[derive(Clone, Copy)]
 pub struct Totals {
     pub digest: u64,
     pub steps: u64,
@@ -28,7 +28,7 @@ impl Totals {
 }
 
 // A list under way: what was drawn for it, the state, the variables, the digest, and the last answer
-#[derive(Drop)]
+#[derive(Clone, Copy)]
 struct UnderWay {
     plan: Plan,
     state: State,

@@ -1,5 +1,7 @@
 // Makes the random step lists that bench/LISTS.md defines, runs each through the machine's public methods, and prints
 // their digests. The twin in bench/twin prints the same. A comment in quotation marks names a part of LISTS.md.
+#![tactic(auto)]
+
 mod changing;
 mod choosing;
 mod digest;

@@ -4,7 +4,7 @@ use crate::wrapping::{either, minus, nth, rest, sum};
 use log_region::NUMBERS;
 
 // What is drawn for a list, and the generator's x after it. `w` and `l` are W and L.
-#[derive(Drop)]
+#[derive(Clone, Copy)]
 pub struct Plan {
     pub x: u64,
     pub w: u64,

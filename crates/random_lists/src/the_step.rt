@@ -28,7 +28,7 @@ fn step_of(run: Run) -> Step {
 }
 
 // How many words of home, working and log are lent
-#[derive(Drop)]
+#[derive(Clone, Copy)]
 pub struct Lent {
     pub home: usize,
     pub working: usize,

@@ -1,4 +1,6 @@
 // Worked examples of request [2]: each word printed into a buffer of '#' bytes, and read back.
+#![tactic(auto)]
+
 use libc::STDOUT_FILENO;
 
 const COUNT: usize = 28;

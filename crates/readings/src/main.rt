@@ -1,6 +1,8 @@
 // Reads words from standard input, one decimal number to a line, and prints the reading of each on a line; for a line
 // that is no number from 0 to 2^64 - 1 it prints 18. A text of any length, in constant memory. Where a read or a write
 // fails it says so and stops, and a line that was read in part isn't printed.
+#![tactic(auto)]
+
 use formats::Number;
 use libc::{STDIN_FILENO, STDOUT_FILENO};
 
@@ -10,7 +12,7 @@ const PIECE: usize = 2048;
 const ROOM: usize = reading::LINE * PIECE;
 
 // Whether the text goes on, and what has been read of its last line.
-#[derive(Drop)]
+#[derive(Clone, Copy)]
 struct Turn {
     more: bool,
     number: Number,

@@ -11,7 +11,7 @@ use crate::reading::Found;
 use log_region::{Reading, Record};
 
 // What a record has to do with home: its word, whether its redo is stored there, and whether its undo is.
-#[derive(Drop)]
+#[derive(Clone, Copy)]
 struct Effect {
     at: usize,
     redone: bool,

@@ -8,7 +8,7 @@ use log_region::{Reading, Record};
 
 // What the reading has found: the number of the next record, whether one was bad, and the number of each thread's last
 // commit, or 0.
-#[derive(Drop)]
+#[derive(Clone, Copy)]
 pub struct Found {
     pub tail: u64,
     pub last: [u64; 8],

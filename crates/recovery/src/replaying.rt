@@ -8,7 +8,7 @@ use crate::reading::scan;
 
 // What a replay hands back: whether a record read is bad, the number of the next record, and what is left of the
 // supply.
-#[derive(Drop)]
+#[derive(Clone, Copy)]
 pub struct Replayed {
     pub bad: bool,
     pub tail: u64,

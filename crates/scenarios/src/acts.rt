@@ -53,7 +53,7 @@ const HEAD: u64 = 0x68_65_61_64;
 const SLOT: u64 = 0x73_6c_6f_74;
 
 // What a command asks for: a step, or something else.
-#[derive(Drop)]
+#[derive(Clone, Copy)]
 enum Act {
     Step(Step),
     Other,

@@ -13,7 +13,7 @@ const STEPS: usize = 32;
 const SHOWN: usize = 4;
 
 // The machine under test, what came of its steps, and what is expected at the end.
-#[derive(Drop)]
+#[derive(Clone, Copy)]
 pub struct Bench {
     pub state: State,
     pub home: [u64; 64],

@@ -18,7 +18,7 @@ fn byte(n: u64) -> u8 {
 }
 
 // What came out of a recovery; `right` tells that it was done or left the lost state.
-#[derive(Drop)]
+#[derive(Clone, Copy)]
 struct Reply {
     answer: u64,
     stores: u64,

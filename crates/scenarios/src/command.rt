@@ -21,7 +21,7 @@ const TIMES: u64 = 0x74_69_6d_65_73;
 const EXPECT: u64 = 0;
 
 // What has been read of a command.
-#[derive(Drop)]
+#[derive(Clone, Copy)]
 pub struct Command {
     // The first word, and the numbers that belong to it.
     pub verb: u64,

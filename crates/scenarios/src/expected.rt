@@ -6,7 +6,7 @@ use crate::output::{print, rows};
 pub const WORDS: usize = 64;
 
 // The words that the table names, and 0 for the others. Those up to the last one named, `shown` words, are shown.
-#[derive(Drop)]
+#[derive(Clone, Copy)]
 pub struct Expected {
     pub words: [u64; 64],
     pub shown: usize,

@@ -1,5 +1,7 @@
 // Runs the scenarios of the table on standard input through the machine's public methods, and prints a line for each:
 // what came out beside what is expected.
+#![tactic(auto)]
+
 mod acts;
 mod bench;
 mod by_method;

@@ -2,7 +2,7 @@
 use libc::STDOUT_FILENO;
 
 // How many scenarios have run, and how many of them came out wrong.
-#[derive(Drop)]
+#[derive(Clone, Copy)]
 pub struct Tally {
     pub ran: u64,
     pub wrong: u64,

@@ -5,7 +5,7 @@ ghost use Rattle.state.specs.Linear.{awaited, mark_of};
 use lines::{CLEAN, DIRTY, U_LOG, UR_LOG};
 
 // The buffer that an entry is in.
-#[derive(Drop)]
+#[derive(Clone, Copy)]
 pub enum Buffer {
     UndoRedo,
     Redo,

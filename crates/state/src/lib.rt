@@ -1,5 +1,7 @@
 // The state by its fields, what a step hands back, and what every step shares: the test of a consistent state, that of
 // the lent lengths, the lost state, and the ways out of a step that is refused or cut.
+#![tactic(auto)]
+
 use buffers::{RedoBuffer, UndoBuffer};
 use lines::Lines;
 
@@ -17,7 +19,7 @@ pub use ways_out::{cut, lost, refused};
 
 // A state by its fields. `lost` is document 01's "dark". `lines` and the buffers may have places that are not in use.
 // Numbers stand between its large parts, for the copies that the compiler makes (docs/DECISIONS.md).
-#[derive(Drop)]
+#[derive(Clone, Copy)]
 pub struct Machine {
     pub lost: bool,
     pub words: u16,
@@ -31,7 +33,7 @@ pub struct Machine {
 }
 
 // The counts of a state: words W and slots L, head and tail, and how many entries wait in each buffer.
-#[derive(Drop)]
+#[derive(Clone, Copy)]
 pub struct Counts {
     pub words: u16,
     pub slots: u16,
@@ -42,7 +44,7 @@ pub struct Counts {
 }
 
 // What a step hands back: the answer's number, the count left, and the state.
-#[derive(Drop)]
+#[derive(Clone, Copy)]
 pub struct Outcome {
     pub answer: u64,
     pub left: u64,

@@ -116,7 +116,7 @@ fn store_refusal(idle: bool, taken: bool, room: u64) -> u64
 }
 
 // What a store is to do: for which thread, to which word, and the value.
-#[derive(Drop)]
+#[derive(Clone, Copy)]
 pub(crate) struct Target {
     pub thread: u64,
     pub word: u64,

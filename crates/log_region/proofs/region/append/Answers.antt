@@ -17,8 +17,8 @@ use Rattle.log_region.specs.Holding.{Every}
 use Rattle.log_region.proofs.Stored.{under_none, under-part}
 use Rattle.log_region.proofs.Sizes.{Sized, sized, turned, some-slots}
 use Rattle.log_region.proofs.Numbers.{place-fits}
-use Rattle.log_region.proofs.region.append.Statement.{statement}
-use Rattle.log_region.proofs.region.append.Tie as tie
+use Rattle.log_region.proofs.region.append.Goals as goal
+use Rattle.log_region.proofs.region.append.Goals.{After-place-base, Else-l-number}
 
 -- where the number is turned away, there are no stores
 none : (l n : ℕ) (r : Record) → eqb l 0 || leb numbers n ≡ true → record_stores l n r ≡ []
@@ -40,44 +40,58 @@ put_back : (c base : ℕ) (xs ys : List ℕ) (torn : ℕ) (r : Record) → ys �
     → put_mid base (base + 3 - base) xs ys ≡ stored_under c xs (shifted base (slot_stores torn r))
 put_back c base xs ys torn r e = rw (e, add-sub_cancel_left base 3) (under-part c base 3 xs (slot_stores torn r) (in-slot torn r))
 
-returns : tie.Need-returns
-returns c =
-    let a = c.before.before.before.before.args in
-    let l = c.before.slots in
-    rw (← l.ensures) (under_none a.supply a.log.now _ (none l.result a.number a.entry c.if1.true))
+pub returns-then-l-number : goal.returns-then-l-number
+returns-then-l-number c =
+    let a = c.args in
+    let l = c.slots-l in
+
+    rw (← l.ensures) (record {
+      value = (under_none a.supply a.log.now _ (none l.result a.number a.entry c.if-l-number.true)).0;
+      log_after = (under_none a.supply a.log.now _ (none l.result a.number a.entry c.if-l-number.true)).1;
+    })
 
 -- the log's size, where the number was not turned away
-size : (c : tie.Else1) → Sized (length c.before.before.before.before.args.log.now) c.before.slots.result
-size c = sized _ _ c.before.slots.ensures (some-slots c.before.slots.result c.before.before.before.before.args.number c.if1.false)
+size : (c : Else-l-number) → Sized (length c.args.log.now) c.slots-l.result
+size c = sized _ _ c.slots-l.ensures (some-slots c.slots-l.result c.args.number c.if-l-number.false)
 
 -- the part that is lent ends within the log
-within : (c : tie.After-place) → c.place.result + 2 < length c.before.before.before.before.before.before.args.log.now
+within : (c : After-place-base) → c.place-base.result + 2 < length c.args.log.now
 within c =
-    let s = size c.before.before in
-    rw (c.place.ensures, s.whole) (place-fits _ c.before.before.before.before.before.before.args.number (omega arith))
+    let s = size (goal.at.After-place-base c).Else-l-number in
+    rw (c.place-base.ensures, s.whole) (place-fits _ c.args.number (omega arith))
 
-returns-2 : tie.Need-returns-2
+pub returns : goal.returns
 unfolding slot_stores
-returns-2 c =
-    let placed = c.before.before.before.before in
-    let passed = placed.before.before in
-    let a = passed.before.before.before.before.args in
-    let torn = placed.before.torn-bit in
-    let written = c.before.before.write.ensures in
+returns c =
+    let a = c.args in
+    let torn = c.torn_bit-torn in
     rw (
-      ← passed.before.slots.ensures,
-      some passed.before.slots.result a.number a.entry passed.if1.false,
-      ← placed.place.ensures,
+      ← c.slots-l.ensures,
+      some c.slots-l.result a.number a.entry c.if-l-number.false,
+      ← c.place-base.ensures,
       ← torn.ensures,
     )
-    (written.0, put_back a.supply _ a.log.now _ torn.result a.entry written.1)
+    record {
+      value = c.write.ensures.value;
+      log_after = put_back a.supply _ a.log.now _ torn.result a.entry c.write.ensures.slot_after;
+    }
 
-pub append-spec : {M : Type 1} → statement M
-append-spec =
-    tie.close
-    (tie.spec (λ c κs. search rules) (λ c. search rules) returns (λ c κs. let s = size c in omega arith)
-    (λ c κs. let s = size c.before in omega arith)
-    (λ c. let s = size c.before.before in omega (arith, within c))
-    (λ c. let s = size c.before.before in omega (arith, within c)) (λ c. search rules) (λ c. search rules)
-    (λ c. let s = size c.before.before in omega (arith, within c)) (λ c κs. search rules) (λ c. search rules)
-    returns-2)
+pub torn_bit-torn-requires : goal.torn_bit-torn-requires
+torn_bit-torn-requires c =
+    let s = size (goal.at.torn_bit-torn-requires c).Else-l-number in omega arith
+
+pub place-base-requires : goal.place-base-requires
+place-base-requires c =
+    let s = size (goal.at.place-base-requires c).Else-l-number in omega arith
+
+pub overflow_add-end : goal.overflow_add-end
+overflow_add-end c =
+    let s = size (goal.at.overflow_add-end c).Else-l-number in omega (arith, within (goal.at.overflow_add-end c).After-place-base)
+
+pub offset_bounds-log-base : goal.offset_bounds-log-base
+offset_bounds-log-base c =
+    let s = size (goal.at.offset_bounds-log-base c).Else-l-number in omega (arith, within (goal.at.offset_bounds-log-base c).After-place-base)
+
+pub slice_bounds-write-end : goal.slice_bounds-write-end
+slice_bounds-write-end c =
+    let s = size (goal.at.slice_bounds-write-end c).Else-l-number in omega (arith, within (goal.at.slice_bounds-write-end c).After-place-base)

@@ -1,0 +1,19 @@
+-- `put_values` meets its contract. Before each turn those of the words passed are put.
+use Prim.Native.Nat.{◌-◌, ◌≤◌, ◌<◌}
+use mathlib.Core.Path.{◌≡◌, sym, ◌∙◌}
+use mathlib.Core.Logic.{⊎_elim}
+use native.Mathlib.Omega.{arith}
+use borrow.Author.Rules.{rules}
+use lib.Dec.{eqb}
+use lib.ListN.{length}
+use Rattle.parts.specs.States.{state_at, ULog}
+use Rattle.buffers.specs.Filled.{values_in}
+use Rattle.buffers.proofs.Refilled.{has-place, Placing, placing-none, placing-put, placing-not}
+use Rattle.buffers.proofs.filling.put_values.Given as goal
+
+abbrev pub invariant-loop-j : goal.invariant-loop-j
+invariant-loop-j l =
+    (l.j ≤ 8) × (length l.initial.values ≡ 32 → Placing (values_in l.working l.line) l.states l.from l.initial.values l.values l.at l.j)
+
+abbrev pub decreases-loop-j : goal.decreases-loop-j
+decreases-loop-j l = 8 - l.j

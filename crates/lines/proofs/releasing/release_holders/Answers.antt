@@ -1,0 +1,25 @@
+-- `release_holders` meets its contract. Before each turn the lines passed are released.
+use Prim.Native.Nat.{◌-◌, ◌≤◌, min}
+use mathlib.Core.Path.{◌≡◌}
+use native.Mathlib.Omega.{arith}
+use borrow.Author.Rules.{rules}
+use Rattle.lines.specs.Walks.{replaced_to, freed_holder}
+use Rattle.lines.proofs.ReleasedLines.{replaced-none, replaced-more}
+use Rattle.lines.proofs.releasing.release_holders.Goals as goal
+
+pub loop-i-init : goal.loop-i-init
+loop-i-init c = let a = c.args in (omega arith, replaced-none (freed_holder a.thread) a.holders.now)
+
+pub loop-i-preserved : goal.loop-i-preserved
+loop-i-preserved c =
+    let l = c.loop-i in
+    let a = c.args in
+    let e = l.invariant.1 in
+    (omega arith, rw (c.free_holder.ensures, e) (replaced-more (freed_holder a.thread) l.i a.holders.now))
+
+pub returns : goal.returns
+returns c =
+    let l = c.loop-i in
+    let a = c.args in
+    let e : l.i ≡ min a.n 64 = omega arith in
+    rw e at l.invariant.1

@@ -1,0 +1,20 @@
+-- `count_newest` meets its contract. Before each turn those in the lines passed are counted.
+use Prim.Native.Nat.{ℕ, ◌+◌, ◌-◌, ◌*◌, ◌≤◌, ◌<◌, min}
+use mathlib.Core.Path.{ap, ◌≡◌, sym, ◌∙◌}
+use mathlib.Core.Bool.{Bool}
+use mathlib.Core.List.{List, []}
+use native.Mathlib.Omega.{arith}
+use borrow.Author.Rules.{rules}
+use lib.ListN.{length-append, length}
+use Rattle.lines.specs.declared.Lines.{Lines}
+use Rattle.lines.specs.Lines.{line_at, first_lines}
+use Rattle.lines.specs.Newest.{lines_of, newest_in_line, newest_words}
+use Rattle.lines.proofs.NewestWords.{newest-nothing, newest-line, newest-few}
+use Rattle.lines.proofs.ulog_words.count_newest.Given as goal
+
+abbrev pub invariant-loop-i : goal.invariant-loop-i
+invariant-loop-i l =
+    (l.i ≤ l.end) × ((l.end ≡ min l.n 64) × ((dirty : List Bool) → l.count ≡ length (newest_words (first_lines l.end (lines_of l.holders dirty l.states)) l.thread (8 * l.i))))
+
+abbrev pub decreases-loop-i : goal.decreases-loop-i
+decreases-loop-i l = l.end - l.i

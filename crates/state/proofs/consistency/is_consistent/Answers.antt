@@ -18,7 +18,7 @@ use Rattle.state.proofs.consistency.is_consistent.Goals.{Else-not-within_limits}
 pub returns-then-not-within_limits : goal.returns-then-not-within_limits
 returns-then-not-within_limits c =
     let a = c.args in
-    outside-limits a.n a.opened.now a.holders.now a.t4 a.undo-keys.now a.redo-keys.now
+    outside-limits a.n a.opened.now a.holders.now a.states a.undo_keys.now a.redo_keys.now
     (sym c.within_limits.ensures ∙ c.if-not-within_limits.true)
 
 -- where the limits are kept
@@ -35,8 +35,8 @@ returns c =
     let undos = c.each_waits-undos in
     let lines = c.lines_sound-lines in
     let redos = c.each_waits-redos in
-    let es = entries_lent a.n.redos a.redo-keys.now in
-    parts-consistent a.n a.opened.now a.holders.now a.t4 a.undo-keys.now a.redo-keys.now true
+    let es = entries_lent a.n.redos a.redo_keys.now in
+    parts-consistent a.n a.opened.now a.holders.now a.states a.undo_keys.now a.redo_keys.now true
     undos.result lines.result redos.result (sym (within (goal.at.returns c).Else-not-within_limits)) undos.ensures.each
     (λ t.
     let after = undos.ensures.lines t in (

@@ -14,7 +14,7 @@ use Rattle.state.specs.StateOf.{bare_line, lines_lent, lines_from}
 use Rattle.state.specs.Linear.{line_free, line_sound}
 use Rattle.state.proofs.Walking.{all_more, free_more}
 use Rattle.state.proofs.holding.lines_sound.Goals as goal
-use Rattle.state.proofs.holding.lines_sound.Goals.{Start, Then-eight_free}
+use Rattle.state.proofs.holding.lines_sound.Goals.{Then-eight_free}
 
 pub loop-i-init : goal.loop-i-init
 unfolding all listed
@@ -25,21 +25,18 @@ module _ (c : Then-eight_free) where
   abbrev at : ℕ
   at = c.loop-i.i
 
-  abbrev given : tie.Start invariant-loop decreases-loop
-  given = (goal.at.Then-eight_free c).Start
-
-  eight : (leb (at + 8) given.args.count ≡ true)
-      × (all line_free (lines_from at 8 given.args.holders.now given.args.states.now) ≡ true)
+  eight : (leb (at + 8) c.args.count ≡ true)
+      × (all line_free (lines_from at 8 c.args.holders.now c.args.states.now) ≡ true)
   eight =
       halves
       (sym c.eight_free.ensures ∙ c.if-eight_free.true)
 
-  there : at + 8 ≤ given.args.count
-  there = leb-true (at + 8) given.args.count eight.0
+  there : at + 8 ≤ c.args.count
+  there = leb-true (at + 8) c.args.count eight.0
 
 pub loop-i-preserved-then-eight_free : goal.loop-i-preserved-then-eight_free
 loop-i-preserved-then-eight_free c =
-    let a = (given (goal.at.loop-i-preserved-then-eight_free c).Then-eight_free).args in (
+    let a = c.args in (
       there (goal.at.loop-i-preserved-then-eight_free c).Then-eight_free,
       c.loop-i.invariant.1
           ∙ sym (free_more a.opened.now 8 (at (goal.at.loop-i-preserved-then-eight_free c).Then-eight_free) (λ k. bare_line (get_or a.holders.now k 0) (get_or a.states.now k 0)) (eight (goal.at.loop-i-preserved-then-eight_free c).Then-eight_free).1),
@@ -61,10 +58,6 @@ returns c =
     let same : c.loop-i.i ≡ a.count = omega arith in
     c.loop-i.invariant.1 ∙ ap (λ (n : ℕ). all (line_sound a.opened.now) (lines_lent n a.holders.now a.states.now)) same
 
-pub open_bits-bits-requires : goal.open_bits-bits-requires
-open_bits-bits-requires c =
-    tt
-
 pub overflow_add-i : goal.overflow_add-i
 overflow_add-i c =
     omega (arith, there (goal.at.overflow_add-i c).Then-eight_free)
@@ -72,7 +65,3 @@ overflow_add-i c =
 pub loop-i-smaller-then-eight_free : goal.loop-i-smaller-then-eight_free
 loop-i-smaller-then-eight_free c =
     omega (arith, there (goal.at.loop-i-smaller-then-eight_free c).Then-eight_free)
-
-pub line_sound-sound-requires : goal.line_sound-sound-requires
-line_sound-sound-requires c =
-    tt

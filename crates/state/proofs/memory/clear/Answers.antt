@@ -30,7 +30,7 @@ returns c =
 
 pub offset_bounds-words-i : goal.offset_bounds-words-i
 offset_bounds-words-i c =
-    omega (arith, c.well-formed)
+    omega (arith, c.well_formed)
 
 pub shape_of-words : goal.shape_of-words
 shape_of-words c =

@@ -20,8 +20,8 @@ returns-then-not-waits c =
     let b = a.buffer in
     let called = c.waits in
     reached-fails a.count a.keys.now (awaited b) (mark_of b) a.words a.holders.now a.states.now head.i
-    head.states called.new.1.1.0 called.result c.loop-i-test.true head.invariant.1
-    called.ensures (not-true called.result c.if-not-waits.true)
+    head.states called.new.states called.result c.loop-i-test.true head.invariant.1
+    called.ensures c.if-not-waits.true
 
 pub loop-i-preserved : goal.loop-i-preserved
 loop-i-preserved c =
@@ -31,8 +31,8 @@ loop-i-preserved c =
     let called = c.waits in (
       omega arith,
       reached-more a.count a.keys.now (awaited b) (mark_of b) a.words a.holders.now a.states.now head.i
-          head.states called.new.1.1.0 called.result c.loop-i-test.true head.invariant.1
-          called.ensures (not-false called.result c.if-not-waits.false),
+          head.states called.new.states called.result c.loop-i-test.true head.invariant.1
+          called.ensures c.if-not-waits.false,
     )
 
 pub returns : goal.returns

@@ -39,7 +39,7 @@ module _ (words n : ℕ) (log last : List ℕ) {x : Reading} (read : x ≡ read_
   by-reading y e = ap (λ (z : Reading). effect_of (closed_by last n (thread_read z)) z) (sym e ∙ read)
 
   pub effect-good : {r s : Record} → x ≡ Good r → r ≡ s → (b : Bool) → b ≡ closed_by last n (thread_of s) → effect_of b (Good s) ≡ effect_at words log last n
-  effect-good {r} {s} e f b closed = rw closed (by-reading (Good s) (e ∙ ap Good f))
+  effect-good {r} {s} e f b closed = ap (λ (d : Bool). effect_of d (Good s)) closed ∙ by-reading (Good s) (e ∙ ap Good f)
 
   pub effect-bad : x ≡ Bad → effect_of false Bad ≡ effect_at words log last n
   effect-bad e = by-reading Bad e

@@ -1,0 +1,8 @@
+-- `commits::closes` meets its contract: only the arm of a commit compares threads.
+use native.Mathlib.Omega.{arith}
+use borrow.Author.Rules.{rules}
+use Rattle.model.proofs.ClosedRecords.{commit-read}
+use Rattle.oldest.proofs.commits.closes.Goals as goal
+
+pub returns-in-Commit : goal.returns-in-Commit
+returns-in-Commit c = commit-read _ _ _ _ c.in-Good.is c.in-Commit.is

@@ -20,8 +20,8 @@ use Rattle.model.proofs.Outcomes.{passed-own, way-done}
 use Rattle.state.specs.View.{view, memory}
 use Rattle.state.proofs.HandedBack.{done-back}
 use Rattle.steps.proofs.Outcome.{Comes, refused-way}
-use Rattle.steps.proofs.beginning.begun.Statement.{statement}
-use Rattle.steps.proofs.beginning.begun.Tie as tie
+use Rattle.steps.proofs.beginning.begun.Goals as goal
+use Rattle.steps.proofs.beginning.begun.Goals.{After-refuse-number}
 
 -- The code looks at thread t modulo 8, which is t unless the row before it applies.
 begin-number : (m : Machine) (t n : ℕ) → n ≡ cond (ltb 7 t) 4 (cond (get_or m.opened (t % 8) false) 7 0) → n ≡ number_of (begin_rows m t)
@@ -45,34 +45,27 @@ begin-done m t n c mem zero number none =
     (sym (way-done (begin t) c m mem zero n number none [] (begin_next m t) mem.working refl (omega arith) ∙ (simp (stored-none, sub-zero))))
 
 -- the number that the code computes
-module _ (c : tie.After-refuse2) where
-  abbrev start : tie.Start
-  start = c.before.before.before
+module _ (c : After-refuse-number) where
 
-  computed : c.refuse2.result ≡ number_of (begin_rows (view start.args.t1) start.args.thread)
+  computed : c.refuse-number.result ≡ number_of (begin_rows (view c.args.state) c.args.thread)
   computed =
-      begin-number (view start.args.t1) start.args.thread c.refuse2.result (simp (c.refuse2.ensures, c.before.refuse.ensures))
+      begin-number (view c.args.state) c.args.thread c.refuse-number.result (simp (c.refuse-number.ensures, c.refuse.ensures))
 
-returns : tie.Need-returns
-returns c =
-    let d = c.before.before in
-    let a = (start d).args in
-    let way : (mem : Memory) → Comes (begin a.thread) a.supply (view a.t1) mem a.t1 c.refused.result mem.home mem.working mem.log =
+pub returns-then-number-ne0 : goal.returns-then-number-ne0
+returns-then-number-ne0 c =
+    let a = c.args in
+    let way : (mem : Memory) → Comes (begin a.thread) a.supply (view a.state) mem a.state c.refused.result mem.home mem.working mem.log =
     λ mem.
-    refused-way (begin a.thread) a.supply a.t1 mem (start d).requires d.refuse2.result (computed d) c.before.if1.true refl
+    refused-way (begin a.thread) a.supply a.state mem c.requires c.refuse-number.result (computed (goal.at.returns-then-number-ne0 c).After-refuse-number) c.if-number-ne0.true refl
     c.refused.result c.refused.ensures in
-    (λ mem. (way mem).0, (way (memory [] [] [])).1)
+    record {
+      log_value = λ mem. (way mem).0;
+      handed_back = (way (memory [] [] [])).1;
+    }
 
-returns-2 : tie.Need-returns-2
-returns-2 c =
-    let d = c.before in
-    let a = (start d).args in (
-      λ mem. begin-done (view a.t1) a.thread d.refuse2.result a.supply mem (start d).requires (computed d) c.if1.false,
-      done-back a.t1 _ refl,
-    )
-
-pub begun-spec : {M : Type 1} → statement M
-begun-spec =
-    tie.close
-    (tie.spec (λ c. search rules) (λ c κs. search rules) (λ c κs. search rules) (λ c κs. search rules) returns
-    (λ c. search rules) returns-2)
+pub returns : goal.returns
+returns c =
+    let a = c.args in record {
+      log_value = λ mem. begin-done (view a.state) a.thread c.refuse-number.result a.supply mem c.requires (computed (goal.at.returns c).After-refuse-number) c.if-number-ne0.false;
+      handed_back = done-back a.state _ refl;
+    }

@@ -1,0 +1,25 @@
+-- `deleting::refusal` meets its contract: a number for each verdict.
+use native.Mathlib.Omega.{arith}
+use borrow.Author.Rules.{rules}
+use Rattle.model.specs.Refusals.{number_of}
+use Rattle.steps.proofs.deleting.refusal.Goals as goal
+
+pub returns-in-Nothing : goal.returns-in-Nothing
+unfolding number_of
+returns-in-Nothing c = rw c.in-Nothing.is
+
+pub returns-in-Damaged : goal.returns-in-Damaged
+unfolding number_of
+returns-in-Damaged c = rw c.in-Damaged.is
+
+pub returns-in-Open : goal.returns-in-Open
+unfolding number_of
+returns-in-Open c = rw c.in-Open.is
+
+pub returns-in-Needed : goal.returns-in-Needed
+unfolding number_of
+returns-in-Needed c = rw c.in-Needed.is
+
+pub returns-in-Spare : goal.returns-in-Spare
+unfolding number_of
+returns-in-Spare c = rw c.in-Spare.is

@@ -1,4 +1,5 @@
 -- `State::begin` meets its contract: that of the step over no words and no supply, which a begin doesn't look at.
+use native.Mathlib.Omega.{arith}
 use Prim.Native.Nat.{ℕ}
 use mathlib.Core.Path.{◌≡◌, sym, ◌∙◌, ap}
 use mathlib.Core.List.{List}
@@ -10,8 +11,11 @@ use Rattle.model.proofs.Outcomes.{begin-alone, begin-uncut}
 use Rattle.machine.specs.declared.State.{State}
 use Rattle.machine.specs.declared.Answer.{Answer}
 use Rattle.machine.specs.Answers.{view, shown, opening, HandedBack}
-use Rattle.machine.proofs.State.begin.Statement.{statement}
-use Rattle.machine.proofs.State.begin.Tie as tie
+use Rattle.machine.proofs.State.begin.Goals as goal
+
+-- a pair as the clauses of the contract
+clauses : {A B : Type 0} → A × B → record { by_index : A; state_value : B }
+clauses p = record { by_index = p.0; state_value = p.1 }
 
 -- what is handed back of a begin under no supply
 comes : (t : ℕ) (self : State) (r : Answer) (home working log : List ℕ) (lent : Memory)
@@ -26,11 +30,7 @@ comes t self r home working log lent e back = (
   λ some. back.refused some (λ cut. begin-uncut t (view self) 0 lent (sym (ap (λ (o : Outcome). o.answer) e) ∙ cut)),
 )
 
-returns : tie.Need-returns
+pub returns : goal.returns
 returns c =
-    let made = c.before.before.before.before.step in
-    let start = c.before.before.before.before.before.before.before.before in
-    comes start.args.thread start.args.self made.result _ _ _ _ made.ensures.0 made.ensures.1
-
-pub begin-spec : {M : Type 1} → statement M
-begin-spec = tie.close (tie.spec (λ c. search rules) (λ c. search rules) (λ c. search rules) (λ c κs. search rules) returns)
+    let made = c.step-made in
+    clauses (comes c.args.thread c.args.self made.result _ _ _ _ made.ensures.log_after made.ensures.handed_back)

@@ -1,0 +1,7 @@
+-- `State::lost` meets its contract: the lost machine, with the state around it.
+use native.Mathlib.Omega.{arith}
+use borrow.Author.Rules.{rules}
+use Rattle.machine.proofs.State.lost.Goals as goal
+
+pub returns : goal.returns
+returns c = rw c.lost.ensures

@@ -4,7 +4,7 @@ use mathlib.Core.Path.{◌≡◌, refl, sym, ap₂, ◌∙◌}
 use mathlib.Core.Bool.{Bool, true, false, ◌&&◌, not}
 use mathlib.Core.List.{List, [], ◌∷◌, ◌++◌, append-nil}
 use native.Mathlib.Numerals.{add-one}
-use borrow.Author.Tests.{eqb-true, not-true, not-false}
+use borrow.Author.Tests.{eqb-true}
 use lib.Dec.{eqb}
 use lib.ListN.{length, drop, set, get_or}
 use lib.Seq.{append_snoc, drop-cons, drop-length, set_at}
@@ -115,8 +115,8 @@ upto_all w f answers₀ stores₀ i n m mem answers stores u e h k =
     rw (a, b, u.machine, u.memory, e) refl
 
 -- a test t that the slices can be run
-pub may-run : (s : Script) (answers stores : List ℕ) (t : Bool) → t ≡ runnable s answers stores → not t ≡ false → runnable s answers stores ≡ true
-may-run s answers stores t e f = sym e ∙ not-false t f
+pub may-run : (s : Script) (answers stores : List ℕ) (t : Bool) → t ≡ runnable s answers stores → t ≡ true → runnable s answers stores ≡ true
+may-run s answers stores t e f = sym e ∙ f
 
 -- a run that is not refused, and one that is
 module _ (s : Script) (m : Machine) (mem : Memory) (answers stores : List ℕ) where
@@ -124,7 +124,7 @@ module _ (s : Script) (m : Machine) (mem : Memory) (answers stores : List ℕ) w
   unfolding run_of
   run-made p e made = rw e made
 
-  pub run-refused : (t : Bool) → t ≡ runnable s answers stores → not t ≡ true
+  pub run-refused : (t : Bool) → t ≡ runnable s answers stores → t ≡ false
       → ◌≡◌ {A = Report} (record { answer = 1; machine = m; memory = mem; answers = answers; stores = stores }) (run_of s m mem answers stores)
   unfolding run_of
-  run-refused t e f = rw (← e, not-true t f)
+  run-refused t e f = rw (← e, f)

@@ -7,8 +7,7 @@ use native.Mathlib.Omega.{arith}
 use lib.ListN.{get_or-eq_default}
 use Rattle.model.specs.Step.{begin, store, log_undo, log_redo, evict, write_back, commit, delete_oldest, recover}
 use Rattle.runner.specs.Running.{numbered}
-use Rattle.runner.proofs.running.step_of.Statement.{statement}
-use Rattle.runner.proofs.running.step_of.Tie as tie
+use Rattle.runner.proofs.running.step_of.Goals as goal
 
 -- a number from n on that is not n
 above : (k n : ℕ) → n ≤ k → (k ≡ n → ⊥) → n + 1 ≤ k
@@ -27,19 +26,44 @@ from-eight k t p v h =
           (above k 8 h ne)
     ]
 
-from-recover : tie.Need-returns-9
-from-recover c =
-    let kind = c.before.args.kind in
-    let r = c.match.rest in
+pub returns-in_default : goal.returns-in_default
+returns-in_default c =
+    let kind = c.args.kind in
+    let r = c.in_default.in_default-own.rest in
     let low : 4 ≤ kind =
     above kind 3 (above kind 2 (above kind 1 (above kind 0 (omega arith) r.0.0.0.0.0.0.0.1) r.0.0.0.0.0.0.1) r.0.0.0.0.0.1)
     r.0.0.0.0.1 in
     let h : 8 ≤ kind = above kind 7 (above kind 6 (above kind 5 (above kind 4 low r.0.0.0.1) r.0.0.1) r.0.1) r.1 in
     sym (from-eight kind _ _ _ h)
 
-pub step-of-spec : {M : Type 1} → statement M
-step-of-spec =
-    tie.close
-    (tie.spec (λ c. rw c.match.keys1) (λ c. rw c.match.keys2) (λ c. rw c.match.keys3)
-    (λ c. rw c.match.keys4) (λ c. rw c.match.keys5) (λ c. rw c.match.keys6) (λ c. rw c.match.keys7)
-    (λ c. rw c.match.keys8) from-recover)
+pub returns-in-0 : goal.returns-in-0
+returns-in-0 c =
+    rw c.in-0.is
+
+pub returns-in-1 : goal.returns-in-1
+returns-in-1 c =
+    rw c.in-1.is
+
+pub returns-in-2 : goal.returns-in-2
+returns-in-2 c =
+    rw c.in-2.is
+
+pub returns-in-3 : goal.returns-in-3
+returns-in-3 c =
+    rw c.in-3.is
+
+pub returns-in-4 : goal.returns-in-4
+returns-in-4 c =
+    rw c.in-4.is
+
+pub returns-in-5 : goal.returns-in-5
+returns-in-5 c =
+    rw c.in-5.is
+
+pub returns-in-6 : goal.returns-in-6
+returns-in-6 c =
+    rw c.in-6.is
+
+pub returns-in-7 : goal.returns-in-7
+returns-in-7 c =
+    rw c.in-7.is

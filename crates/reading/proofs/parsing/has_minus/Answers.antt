@@ -1,5 +1,4 @@
 -- `has_minus` meets its contract.
-use Rattle.std.proofs.Common.{rules}
 use Rattle.reading.proofs.SameBytes.{no_minus, first-minus}
 use Rattle.reading.proofs.parsing.has_minus.Goals as goal
 

@@ -1,5 +1,5 @@
 -- `parse` meets its contract.
-use Rattle.std.proofs.Common.{◌≡◌, ℕ, Bool, sym, ap, ◌∙◌, rules}
+use Rattle.std.proofs.Common.{◌≡◌, ℕ, Bool, sym, ap, ◌∙◌}
 use Rattle.formats.specs.declared.Number.{Number}
 use Rattle.reading.specs.declared.Parsed.{Parsed}
 use Rattle.reading.specs.Text.{parsed_by, parsed_of, word_for, read_as}

@@ -1,5 +1,5 @@
 -- `read_as` meets its contract.
-use Rattle.std.proofs.Common.{◌≡◌, length, take, sym, ap, ◌∙◌, arith, lit≤, rules}
+use Rattle.std.proofs.Common.{◌≡◌, length, take, sym, ap, ◌∙◌, arith, lit≤}
 use lib.Seq.{take-append_seam}
 use Rattle.reading.specs.Text.{text_of, same_bytes}
 use Rattle.reading.proofs.SameBytes.{same_by}

@@ -1,5 +1,5 @@
 -- `word_for` meets its contract.
-use Rattle.std.proofs.Common.{arith, rules}
+use Rattle.std.proofs.Common.{arith}
 use Rattle.reading.proofs.parsing.word_for.Goals as goal
 
 pub returns-then-negative : goal.returns-then-negative

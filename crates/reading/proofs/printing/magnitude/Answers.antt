@@ -1,5 +1,5 @@
 -- `magnitude` meets its contract.
-use Rattle.std.proofs.Common.{nat_abs, ap, arith, rules}
+use Rattle.std.proofs.Common.{nat_abs, ap, arith}
 use lib.Signed.{mag}
 use Rattle.reading.proofs.Counts.{cast-pos, complement-fits, complement-read, negative-magnitude, positive-read}
 use Rattle.reading.proofs.printing.magnitude.Goals as goal

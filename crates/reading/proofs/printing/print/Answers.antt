@@ -1,5 +1,5 @@
 -- `print` meets its contract.
-use Rattle.std.proofs.Common.{◌≡◌, ℕ, ◌+◌, ◌/◌, ◌%◌, ◌^◌, ◌++◌, length, drop, ap, ◌∙◌, mod-eq_of_lt, arith, length-append, length-drop, length-set, w64, to_z, of_z, rules}
+use Rattle.std.proofs.Common.{◌≡◌, ℕ, ◌+◌, ◌/◌, ◌%◌, ◌^◌, ◌++◌, length, drop, ap, ◌∙◌, mod-eq_of_lt, arith, length-append, length-drop, length-set, w64, to_z, of_z}
 use mir.ValLaws.{to_z-of_z}
 use Rattle.formats.specs.Decimal.{digit, decimal, last_digits}
 use Rattle.formats.proofs.Buffers.{filled-short, filled-whole}
@@ -28,7 +28,8 @@ text-size c =
 pub returns-then-text-end : goal.returns-then-text-end
 returns-then-text-end c =
     let a = c.args in
-    filled-short (text_of a.word) a.text.now (rw (text-size (goal.at.returns-then-text-end c).After-decimal_length) c.if-text-end.true)
+    let size = text-size (goal.at.returns-then-text-end c).After-decimal_length in
+    filled-short (text_of a.word) a.text.now (omega arith)
 
 -- the buffer once the sign is stored
 signed-buffer : (c : Joined-start-eq1)

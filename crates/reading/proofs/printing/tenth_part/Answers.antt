@@ -1,5 +1,5 @@
 -- `tenth_part` meets its contract.
-use Rattle.std.proofs.Common.{nat_abs, ap, ◌∙◌, lit<, rules}
+use Rattle.std.proofs.Common.{nat_abs, ap, ◌∙◌, lit<}
 use Rattle.reading.proofs.Counts.{quot_fits, rem_read}
 use Rattle.reading.proofs.printing.tenth_part.Goals as goal
 

@@ -1,5 +1,4 @@
 -- `tenths_of` meets its contract.
-use Rattle.std.proofs.Common.{rules}
 use Rattle.reading.proofs.Counts.{word-complement-fits, word-complement-signed}
 use Rattle.reading.proofs.printing.tenths_of.Goals as goal
 

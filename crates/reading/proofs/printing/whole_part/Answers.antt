@@ -1,5 +1,5 @@
 -- `whole_part` meets its contract.
-use Rattle.std.proofs.Common.{nat_abs, ap, ◌∙◌, lit<, rules}
+use Rattle.std.proofs.Common.{nat_abs, ap, ◌∙◌, lit<}
 use Rattle.reading.proofs.Counts.{quot_fits, quot-read}
 use Rattle.reading.proofs.printing.whole_part.Goals as goal
 

@@ -1,5 +1,5 @@
 -- `feed` meets its contract. What was printed for the bytes passed stands in the buffer before `end`.
-use Rattle.std.proofs.Common.{◌+◌, ◌≡◌, ◌-◌, ◌*◌, ◌≤◌, length, arith, rules}
+use Rattle.std.proofs.Common.{◌+◌, ◌≡◌, ◌-◌, ◌*◌, ◌≤◌, length, arith}
 use borrow.Rule.Slice.PartMut.{put_mid}
 use Rattle.reading.proofs.Streams.{FedTo, none_read, all_read, end-within, kept, byte-read, fed-short}
 use Rattle.reading.proofs.stream.feed.Goals as goal

@@ -1,6 +1,6 @@
 -- `feed` meets its contract. What was printed for the bytes passed stands in the buffer before `end`.
-use Rattle.std.proofs.Common.{◌≡◌, ◌-◌, ◌*◌, ◌≤◌, length, arith, rules}
-use Rattle.reading.proofs.Streams.{FedTo, none_read, all_read, end-within, kept, byte-read, fed-short}
+use Rattle.std.proofs.Common.{◌-◌, length}
+use Rattle.reading.proofs.Streams.{FedTo}
 use Rattle.reading.proofs.stream.feed.Given as goal
 
 abbrev pub invariant-loop-i : goal.invariant-loop-i

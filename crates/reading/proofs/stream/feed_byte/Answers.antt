@@ -1,5 +1,5 @@
 -- `feed_byte` meets its contract.
-use Rattle.std.proofs.Common.{[], ◌∷◌, ap, arith, rules}
+use Rattle.std.proofs.Common.{[], ◌∷◌, ap, arith}
 use Rattle.formats.specs.declared.Written.{Written}
 use Rattle.formats.proofs.Buffers.{filled-known}
 use Rattle.reading.specs.Stream.{printed_line}

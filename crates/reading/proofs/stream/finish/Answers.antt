@@ -1,5 +1,5 @@
 -- `finish` meets its contract.
-use Rattle.std.proofs.Common.{[], refl, arith, rules}
+use Rattle.std.proofs.Common.{[], refl, arith}
 use Rattle.formats.proofs.Buffers.{filled-whole}
 use Rattle.reading.specs.Stream.{printed_last}
 use Rattle.reading.proofs.Streams.{filled-by}

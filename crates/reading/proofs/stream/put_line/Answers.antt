@@ -1,5 +1,4 @@
 -- `put_line` meets its contract.
-use Rattle.std.proofs.Common.{rules}
 use Rattle.reading.specs.Stream.{printed_line}
 use Rattle.reading.proofs.Streams.{filled-by}
 use Rattle.reading.proofs.stream.put_line.Goals as goal

@@ -1,5 +1,5 @@
 -- `put_reading` meets its contract.
-use Rattle.std.proofs.Common.{◌≤◌, ◌≡◌, ℕ, ◌+◌, List, [], ◌∷◌, ◌++◌, length, take, drop, set, replicate, sym, ap, ◌∙◌, arith, lit≤, length-drop, length-set, length-take-le, rules}
+use Rattle.std.proofs.Common.{◌≤◌, ◌≡◌, ℕ, ◌+◌, List, [], ◌∷◌, ◌++◌, length, take, drop, set, replicate, sym, ap, ◌∙◌, arith, lit≤, length-drop, length-set, length-take-le}
 use Rattle.formats.specs.Lines.{line_feed}
 use Rattle.formats.specs.Written.{filled_with}
 use Rattle.formats.proofs.Buffers.{one_set}
@@ -28,15 +28,15 @@ pub overflow_add-line : goal.overflow_add-line
 overflow_add-line c = let p = printed (goal.at.overflow_add-line c).After-print-end in omega arith
 
 -- and the array has room for it
-line-fits : (c : After-print-end)
-    → c.print-end.result.length + 1 ≤ length (set c.print-end.new.text c.print-end.result.length line_feed)
-line-fits c = let p = printed c in simp length-set (omega arith)
+line-fits : (c : After-print-end) (byte : ℕ)
+    → c.print-end.result.length + 1 ≤ length (set c.print-end.new.text c.print-end.result.length byte)
+line-fits c byte = let p = printed c in simp length-set (omega arith)
 
 pub slice_bounds-line-end : goal.slice_bounds-line-end
-slice_bounds-line-end c = line-fits (goal.at.slice_bounds-line-end c).After-print-end
+slice_bounds-line-end c = line-fits (goal.at.slice_bounds-line-end c).After-print-end _
 
 pub slice_bounds-put-end : goal.slice_bounds-put-end
-slice_bounds-put-end c = sym (length-take-le _ _ (line-fits (goal.at.slice_bounds-put-end c).After-print-end))
+slice_bounds-put-end c = sym (length-take-le _ _ (line-fits (goal.at.slice_bounds-put-end c).After-print-end _))
 
 pub returns : goal.returns
 returns c =

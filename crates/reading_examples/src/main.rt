@@ -1,7 +1,7 @@
 // Worked examples of request [2]: each word printed into a buffer of '#' bytes, and read back.
 #![tactic(auto)]
 
-use libc::STDOUT_FILENO;
+use std::io;
 
 const COUNT: usize = 28;
 
@@ -44,43 +44,45 @@ const SIZES: [usize; COUNT] = [
 // The longest buffer.
 const ROOM: usize = 22;
 
-fn print(text: &[u8]) {
-    io::write_all(STDOUT_FILENO, text);
+fn print(rt: &impl Print, text: &[u8]) -> io::Result<()> {
+    rt.write_all(text)
 }
 
 // Two numbers, with a text between them.
-fn print_numbers(first: u64, between: &[u8], second: u64) {
-    io::print_decimal(STDOUT_FILENO, first);
-    print(between);
-    io::print_decimal(STDOUT_FILENO, second);
+fn print_numbers(rt: &impl Print, first: u64, between: &[u8], second: u64) -> io::Result<()> {
+    print!(rt; "{first}")?;
+    print(rt, between)?;
+    print!(rt; "{second}")
 }
 
 // The answer, the length and the buffer, then what the text leads back to.
-fn show(word: u64, buffer: &mut [u8]) {
+fn show(rt: &impl Print, word: u64, buffer: &mut [u8]) -> io::Result<()> {
     let printed = reading::print(word, buffer);
     let length = printed.length;
     let back = reading::parse(&buffer[..length]);
-    print_numbers(printed.answer, b" ", length as u64);
-    print(b" ");
-    print(buffer);
-    print(b" = ");
-    print_numbers(back.answer, b" ", back.word);
-    print(b"\n");
+    print_numbers(rt, printed.answer, b" ", length as u64)?;
+    print(rt, b" ")?;
+    print(rt, buffer)?;
+    print(rt, b" = ")?;
+    print_numbers(rt, back.answer, b" ", back.word)?;
+    print(rt, b"\n")
 }
 
-fn example(word: u64, size: usize) {
+fn example(rt: &impl Print, word: u64, size: usize) -> io::Result<()> {
     let mut buffer = [b'#'; ROOM];
-    print_numbers(word, b" in ", size as u64);
-    print(b" -> ");
+    print_numbers(rt, word, b" in ", size as u64)?;
+    print(rt, b" -> ")?;
     if size <= ROOM {
-        show(word, &mut buffer[..size]);
+        show(rt, word, &mut buffer[..size])?;
     }
+    Ok(())
 }
 
-fn main() {
+fn main(rt: HostRuntime) -> io::Result<()> {
     let mut i = 0;
     while i < COUNT {
-        example(WORDS[i], SIZES[i]);
+        example(&rt, WORDS[i], SIZES[i])?;
         i += 1;
     }
+    Ok(())
 }

@@ -4,7 +4,8 @@
 #![tactic(auto)]
 
 use formats::Number;
-use libc::{STDIN_FILENO, STDOUT_FILENO};
+use std::io;
+use std::io::{Read, Write};
 
 // A piece of the text, and the room for what it can print.
 const PIECE: usize = 2048;
@@ -18,60 +19,48 @@ struct Turn {
     number: Number,
 }
 
-// A call failed: no more is read or printed.
-fn failed(name: &[u8]) -> Turn {
-    os::fail(name);
-    Turn {
-        more: false,
-        number: Number::Blank,
-    }
-}
-
 // Reads a piece of the text, and writes what is printed for it.
-fn read_piece(number: Number, piece: &mut [u8], output: &mut [u8]) -> Turn {
-    let got = libc::read(STDIN_FILENO, piece);
-    if got < 0 {
-        return failed(b"standard input");
-    }
-    let n = io::count(got, piece);
+fn read_piece(
+    from: &mut impl Read,
+    to: &mut impl Write,
+    number: Number,
+    piece: &mut [u8],
+    output: &mut [u8],
+) -> io::Result<Turn> {
+    let n = from.read(piece)?;
     if n == 0 {
-        return Turn {
+        return Ok(Turn {
             more: false,
             number,
-        };
+        });
     }
     let fed = reading::feed(number, &piece[..n], output);
-    let length = fed.length;
-    let next = fed.number;
-    if !io::write_all(STDOUT_FILENO, &output[..length]) {
-        return failed(b"standard output");
-    }
-    Turn {
+    to.write_all(&output[..fed.length])?;
+    Ok(Turn {
         more: true,
-        number: next,
-    }
+        number: fed.number,
+    })
 }
 
-// A proved loop has to end, and nothing says that a text does: the turns are counted down from a number that no run
-// uses up.
-fn read_all() -> Number {
+// A proved loop has to end, and nothing says that a text does: the turns are counted up to a number that no run
+// reaches.
+fn read_all(from: &mut impl Read, to: &mut impl Write) -> io::Result<Number> {
     let mut piece = [0u8; PIECE];
     let mut output = [0u8; ROOM];
     let mut number = Number::Blank;
-    let mut turns = u64::MAX;
-    while 0 < turns {
-        let next = read_piece(number, &mut piece, &mut output);
+    for _ in 0..u64::MAX {
+        let next = read_piece(from, to, number, &mut piece, &mut output)?;
         number = next.number;
         if !next.more {
-            return number;
+            return Ok(number);
         }
-        turns -= 1;
     }
-    number
+    Ok(number)
 }
 
-fn main() {
+fn main(rt: HostRuntime) -> io::Result<()> {
     let mut line = [0u8; reading::LINE];
-    let length = reading::finish(read_all(), &mut line).length;
-    io::write_all(STDOUT_FILENO, &line[..length]);
+    let number = read_all(&mut rt.stdin(), &mut rt.stdout())?;
+    let length = reading::finish(number, &mut line).length;
+    rt.write_all(&line[..length])
 }

@@ -1,5 +1,5 @@
 -- A list by its elements: its length, its elements, and when two are equal.
-use Prim.Native.Nat.{ℕ, suc, zero, ◌+◌, ◌<◌}
+use Prim.Native.Nat.{ℕ, suc, zero, ◌<◌}
 use mathlib.Core.Path.{◌≡◌, refl, sym, ap, ap₂, ◌∙◌}
 use mathlib.Core.List.{List, [], ◌∷◌, ◌++◌}
 use native.Mathlib.Decide.{dec_lt, ℕ_discrete}

@@ -28,7 +28,7 @@ use Rattle.model.proofs.Fit.{Clauses, clauses, all-every}
 use Rattle.buffers.specs.Waiting.{entry_of}
 use Rattle.state.specs.declared.Counts.{Counts}
 use Rattle.state.specs.StateOf.{lines_lent, entries_lent, state_of}
-use Rattle.state.specs.Linear.{in_limits, line_sound, waits_for, each_waits, all_marked, counts_of, linear}
+use Rattle.state.specs.Linear.{in_limits, line_sound, each_waits, all_marked, counts_of, linear}
 use Rattle.state.proofs.Marks.{and-under, all_both, Waiting, waiting-test, test-waiting, holder_sound, line_without_dirty, after-marks}
 use Rattle.state.proofs.NoneDirty.{none-dirty, none-dirty-test}
 

@@ -1,8 +1,5 @@
 -- `push_key` meets its contract: the oldest are taken, if any are gone, and one is put next after the others.
-use native.Mathlib.Omega.{arith}
 use mathlib.Core.Path.{◌≡◌, ◌∙◌}
-use mathlib.Core.Logic.{⊎_elim}
-use borrow.Author.Rules.{rules}
 use Rattle.buffers.specs.Arrays.{removed}
 use Rattle.buffers.proofs.Refilled.{none-gone, then-pushed, none-pushed}
 use Rattle.buffers.proofs.adding.push_key.Goals as goal

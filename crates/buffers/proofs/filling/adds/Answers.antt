@@ -1,6 +1,4 @@
 -- `adds` meets its contract, by what `state_at` gives.
-use native.Mathlib.Omega.{arith}
-use borrow.Author.Rules.{rules}
 use borrow.Author.Tests.{ne_eqb}
 use Rattle.parts.specs.States.{ULog}
 use Rattle.buffers.proofs.filling.adds.Goals as goal

@@ -1,14 +1,11 @@
 -- `put_keys` meets its contract. Before each turn those of the words passed are put.
-use Prim.Native.Nat.{◌-◌, ◌≤◌, ◌<◌}
+use Prim.Native.Nat.{◌<◌}
 use mathlib.Core.Path.{◌≡◌, sym, ◌∙◌}
-use mathlib.Core.Logic.{⊎_elim}
 use native.Mathlib.Omega.{arith}
-use borrow.Author.Rules.{rules}
 use lib.Dec.{eqb}
-use lib.ListN.{length}
 use Rattle.parts.specs.States.{state_at, ULog}
 use Rattle.buffers.specs.Filled.{keys_in}
-use Rattle.buffers.proofs.Refilled.{has-place, Placing, placing-none, placing-put, placing-not}
+use Rattle.buffers.proofs.Refilled.{has-place, placing-none, placing-put, placing-not}
 use Rattle.buffers.proofs.filling.put_keys.Goals as goal
 use Rattle.buffers.proofs.filling.put_keys.Goals.{Then-adds, else-adds, then-adds}
 

@@ -1,8 +1,5 @@
 -- `refill_keys` meets its contract: the oldest entries are taken, if any are gone, then those of the ULog words are put.
-use native.Mathlib.Omega.{arith}
 use mathlib.Core.Path.{◌≡◌, ◌∙◌}
-use mathlib.Core.Logic.{⊎_elim}
-use borrow.Author.Rules.{rules}
 use borrow.Author.Tests.{lt-ltb, le-ltb}
 use lib.ListN.{length}
 use Rattle.buffers.specs.Arrays.{removed}

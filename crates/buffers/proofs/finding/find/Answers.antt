@@ -1,10 +1,6 @@
 -- `find` meets its contract. The word's place, looked for from `i` on, is its place among all the entries.
-use Prim.Native.Nat.{ℕ, ◌+◌, ◌-◌, ◌≤◌}
 use mathlib.Core.Path.{◌≡◌, sym, ◌∙◌}
-use mathlib.Core.List.{List}
 use native.Mathlib.Omega.{arith}
-use borrow.Author.Rules.{rules}
-use lib.ListN.{drop}
 use Rattle.buffers.specs.Waiting.{entry_of, waiting_of}
 use Rattle.parts.specs.Entries.{index_of}
 use Rattle.buffers.proofs.Places.{place_here, place-next, place_none}

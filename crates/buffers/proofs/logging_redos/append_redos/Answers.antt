@@ -1,9 +1,8 @@
 -- `append_redos` meets its contract. Before each turn the records of the entries passed are appended.
-use Prim.Native.Nat.{ℕ, ◌-◌}
+use Prim.Native.Nat.{ℕ}
 use mathlib.Core.Path.{ap₂}
 use mathlib.Core.List.{[]}
 use native.Mathlib.Omega.{arith}
-use borrow.Author.Rules.{rules}
 use lib.ListN.{get_or}
 use Rattle.log_region.specs.declared.Record.TheVariants.{Redo}
 use Rattle.parts.specs.declared.Entry.{Entry}
@@ -11,7 +10,7 @@ use Rattle.buffers.specs.Waiting.{entry_of}
 use Rattle.model.specs.Steps.{redo_record}
 use Rattle.log_region.proofs.Appended.{appended-length}
 use Rattle.buffers.proofs.Guards.{oldest-not-appended}
-use Rattle.buffers.proofs.OldestLoop.{Passed, passed_start, passed-more, passed-all}
+use Rattle.buffers.proofs.OldestLoop.{passed_start, passed-more, passed-all}
 use Rattle.buffers.proofs.logging_redos.append_redos.Goals as goal
 use Rattle.buffers.proofs.logging_redos.append_redos.Goals.{Start}
 

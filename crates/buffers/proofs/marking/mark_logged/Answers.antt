@@ -1,9 +1,8 @@
 -- `mark_logged` meets its contract. Before each turn the words passed are marked.
-use Prim.Native.Nat.{ℕ, ◌-◌, ◌≤◌}
+use Prim.Native.Nat.{ℕ}
 use mathlib.Core.Path.{◌≡◌, refl, sym, ap, ◌∙◌}
 use mathlib.Core.List.{List}
 use native.Mathlib.Omega.{arith}
-use borrow.Author.Rules.{rules}
 use lib.ListN.{length, take}
 use Rattle.parts.proofs.Oldest.{take-least}
 use Rattle.buffers.specs.Records.{states_logged}

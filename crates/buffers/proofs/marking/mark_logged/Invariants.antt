@@ -1,13 +1,8 @@
 -- `mark_logged` meets its contract. Before each turn the words passed are marked.
-use Prim.Native.Nat.{ℕ, ◌-◌, ◌≤◌}
-use mathlib.Core.Path.{◌≡◌, refl, sym, ap, ◌∙◌}
-use mathlib.Core.List.{List}
-use native.Mathlib.Omega.{arith}
-use borrow.Author.Rules.{rules}
+use Prim.Native.Nat.{◌-◌, ◌≤◌}
+use mathlib.Core.Path.{◌≡◌}
 use lib.ListN.{length, take}
-use Rattle.parts.proofs.Oldest.{take-least}
 use Rattle.buffers.specs.Records.{states_logged}
-use Rattle.buffers.proofs.LoggedLines.{length-logged, logged-more}
 use Rattle.buffers.proofs.marking.mark_logged.Given as goal
 
 abbrev pub invariant-loop-i : goal.invariant-loop-i

@@ -1,8 +1,6 @@
 -- `remove_u16` meets its contract. Before each turn the elements for the places passed have moved down.
-use Prim.Native.Nat.{◌-◌}
 use native.Mathlib.Omega.{arith}
-use borrow.Author.Rules.{rules}
-use Rattle.buffers.proofs.Removed.{Moving, moving-start, moving-more, moving-end}
+use Rattle.buffers.proofs.Removed.{moving-start, moving-more, moving-end}
 use Rattle.buffers.proofs.removing.remove_u16.Goals as goal
 
 pub returns : goal.returns

@@ -1,8 +1,6 @@
 -- `remove_u64` meets its contract. Before each turn the elements for the places passed have moved down.
 use Prim.Native.Nat.{◌-◌}
-use native.Mathlib.Omega.{arith}
-use borrow.Author.Rules.{rules}
-use Rattle.buffers.proofs.Removed.{Moving, moving-start, moving-more, moving-end}
+use Rattle.buffers.proofs.Removed.{Moving}
 use Rattle.buffers.proofs.removing.remove_u64.Given as goal
 
 abbrev pub invariant-loop-i : goal.invariant-loop-i

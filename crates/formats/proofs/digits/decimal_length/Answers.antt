@@ -1,5 +1,4 @@
 -- `decimal_length` meets its contract. The digits of the rest are what is left to count.
-use Prim.Native.Nat.{◌+◌, ◌≤◌}
 use mathlib.Core.Path.{◌≡◌}
 use native.Mathlib.Omega.{arith}
 use lib.ListN.{length}

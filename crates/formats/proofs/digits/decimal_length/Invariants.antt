@@ -1,10 +1,8 @@
 -- `decimal_length` meets its contract. The digits of the rest are what is left to count.
 use Prim.Native.Nat.{◌+◌, ◌≤◌}
 use mathlib.Core.Path.{◌≡◌}
-use native.Mathlib.Omega.{arith}
 use lib.ListN.{length}
 use Rattle.formats.specs.Decimal.{decimal}
-use Rattle.formats.proofs.Decimals.{length-one, length_more, decimal-short}
 use Rattle.formats.proofs.digits.decimal_length.Given as goal
 
 abbrev pub invariant-loop-rest : goal.invariant-loop-rest

@@ -1,11 +1,7 @@
 -- `fill_decimal` meets its contract. Behind `at` stand the last digits of the number, and those of the rest go before.
-use Prim.Native.Nat.{◌+◌, ◌≤◌}
-use mathlib.Core.Path.{◌≡◌, sym, ◌∙◌}
-use mathlib.Core.List.{◌++◌}
+use mathlib.Core.Path.{sym, ◌∙◌}
 use native.Mathlib.Omega.{arith}
-use borrow.Author.Rules.{rules}
-use lib.ListN.{length, drop, length-set}
-use Rattle.formats.specs.Decimal.{last_digits}
+use lib.ListN.{length-set}
 use Rattle.formats.proofs.Decimals.{none-stored, digit-stored, all-stored}
 use Rattle.formats.proofs.digits.fill_decimal.Goals as goal
 

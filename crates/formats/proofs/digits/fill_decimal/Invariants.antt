@@ -1,12 +1,9 @@
 -- `fill_decimal` meets its contract. Behind `at` stand the last digits of the number, and those of the rest go before.
-use Prim.Native.Nat.{◌+◌, ◌≤◌}
-use mathlib.Core.Path.{◌≡◌, sym, ◌∙◌}
+use Prim.Native.Nat.{◌≤◌}
+use mathlib.Core.Path.{◌≡◌}
 use mathlib.Core.List.{◌++◌}
-use native.Mathlib.Omega.{arith}
-use borrow.Author.Rules.{rules}
-use lib.ListN.{length, drop, length-set}
+use lib.ListN.{length, drop}
 use Rattle.formats.specs.Decimal.{last_digits}
-use Rattle.formats.proofs.Decimals.{none-stored, digit-stored, all-stored}
 use Rattle.formats.proofs.digits.fill_decimal.Given as goal
 
 abbrev pub invariant-loop-at : goal.invariant-loop-at

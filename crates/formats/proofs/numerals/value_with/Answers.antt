@@ -2,8 +2,6 @@
 use mathlib.Core.Path.{◌≡◌, sym, ◌∙◌}
 use mathlib.Core.Bool.{true}
 use native.Mathlib.Omega.{arith}
-use borrow.Author.Rules.{rules}
-use borrow.Author.Tests.{not-true, not-false}
 use Rattle.formats.specs.Decimal.{is_digit, with_digit}
 use Rattle.formats.proofs.Numbers.{digit-bounds, fitted-not, fitted-value, fitted-large}
 use Rattle.formats.proofs.numerals.value_with.Goals as goal

@@ -1,6 +1,5 @@
 -- `with_byte` meets its contract.
 use mathlib.Core.Path.{sym, ◌∙◌, ap}
-use borrow.Author.Rules.{rules}
 use Rattle.formats.specs.declared.Number.{Number}
 use Rattle.formats.specs.Number.{with_byte}
 use Rattle.formats.proofs.numerals.with_byte.Goals as goal

@@ -1,5 +1,4 @@
 -- `with_byte_if_digit` meets its contract.
-use borrow.Author.Rules.{rules}
 use Rattle.formats.proofs.numerals.with_byte_if_digit.Goals as goal
 
 pub returns-then-is_digit : goal.returns-then-is_digit

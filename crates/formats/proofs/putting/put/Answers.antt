@@ -1,9 +1,9 @@
 -- `put` meets its contract. The bytes before `i` are the text's, the others the buffer's.
-use Prim.Native.Nat.{ℕ, ◌-◌, ◌≤◌}
+use Prim.Native.Nat.{ℕ}
 use mathlib.Core.Path.{◌≡◌, refl, ◌∙◌, ap}
 use mathlib.Core.List.{List, ◌++◌}
 use native.Mathlib.Omega.{arith}
-use lib.ListN.{length, take, drop}
+use lib.ListN.{length, drop}
 use lib.Seq.{take_all}
 use Rattle.formats.proofs.Buffers.{filled-short, filled-whole, put_next, length-put}
 use Rattle.formats.proofs.putting.put.Goals as goal

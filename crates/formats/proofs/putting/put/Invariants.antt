@@ -1,11 +1,8 @@
 -- `put` meets its contract. The bytes before `i` are the text's, the others the buffer's.
-use Prim.Native.Nat.{ℕ, ◌-◌, ◌≤◌}
-use mathlib.Core.Path.{◌≡◌, refl, ◌∙◌, ap}
-use mathlib.Core.List.{List, ◌++◌}
-use native.Mathlib.Omega.{arith}
+use Prim.Native.Nat.{◌-◌, ◌≤◌}
+use mathlib.Core.Path.{◌≡◌}
+use mathlib.Core.List.{◌++◌}
 use lib.ListN.{length, take, drop}
-use lib.Seq.{take_all}
-use Rattle.formats.proofs.Buffers.{filled-short, filled-whole, put_next, length-put}
 use Rattle.formats.proofs.putting.put.Given as goal
 
 abbrev pub invariant-loop-i : goal.invariant-loop-i

@@ -1,11 +1,9 @@
 -- `store_line` meets its contract. The stores of the first `j` words have been made under the supply.
-use Prim.Native.Nat.{◌+◌, ◌-◌, ◌*◌, ◌≤◌, ◌<◌}
+use Prim.Native.Nat.{◌+◌, ◌*◌, ◌≤◌, ◌<◌}
 use mathlib.Core.Path.{◌≡◌, refl, ap, ◌∙◌}
 use mathlib.Core.List.{[]}
 use native.Mathlib.Omega.{arith}
-use borrow.Author.Rules.{rules}
 use lib.ListN.{length}
-use Rattle.log_region.specs.Stores.{stored_under}
 use Rattle.log_region.proofs.Stored.{length-stored, under_none}
 use Rattle.parts.specs.Listed.{listed}
 use Rattle.parts.proofs.Listed.{length-listed}
@@ -17,7 +15,6 @@ pub returns-then-working-line : goal.returns-then-working-line
 returns-then-working-line c =
     let a = c.args in
     let h : length a.working.now < 8 * a.line + 8 = omega arith in
-
     record {
       value = (under_none a.supply a.home.now (line_stores a.working.now a.line) (stores-past a.working.now a.line h)).0;
       home_after = (under_none a.supply a.home.now (line_stores a.working.now a.line) (stores-past a.working.now a.line h)).1;

@@ -1,16 +1,9 @@
 -- `store_line` meets its contract. The stores of the first `j` words have been made under the supply.
-use Prim.Native.Nat.{◌+◌, ◌-◌, ◌*◌, ◌≤◌, ◌<◌}
-use mathlib.Core.Path.{◌≡◌, refl, ap, ◌∙◌}
-use mathlib.Core.List.{[]}
-use native.Mathlib.Omega.{arith}
-use borrow.Author.Rules.{rules}
-use lib.ListN.{length}
+use Prim.Native.Nat.{◌-◌, ◌≤◌}
+use mathlib.Core.Path.{◌≡◌}
 use Rattle.log_region.specs.Stores.{stored_under}
-use Rattle.log_region.proofs.Stored.{length-stored, under_none}
 use Rattle.parts.specs.Listed.{listed}
-use Rattle.parts.proofs.Listed.{length-listed}
-use Rattle.lines.specs.Walks.{line_stores}
-use Rattle.lines.proofs.LineStores.{word_write, stores-next, stores-listed, stores-past}
+use Rattle.lines.proofs.LineStores.{word_write}
 use Rattle.lines.proofs.home_stores.store_line.Given as goal
 
 abbrev pub invariant-loop-j : goal.invariant-loop-j

@@ -1,10 +1,7 @@
 -- `release_holders` meets its contract. Before each turn the lines passed are released.
-use Prim.Native.Nat.{◌-◌, ◌≤◌, min}
+use Prim.Native.Nat.{◌-◌, ◌≤◌}
 use mathlib.Core.Path.{◌≡◌}
-use native.Mathlib.Omega.{arith}
-use borrow.Author.Rules.{rules}
 use Rattle.lines.specs.Walks.{replaced_to, freed_holder}
-use Rattle.lines.proofs.ReleasedLines.{replaced-none, replaced-more}
 use Rattle.lines.proofs.releasing.release_holders.Given as goal
 
 abbrev pub invariant-loop-i : goal.invariant-loop-i

@@ -1,9 +1,8 @@
 -- `release_states` meets its contract. Before each turn the lines passed are released.
-use Prim.Native.Nat.{◌-◌, ◌≤◌, min}
+use Prim.Native.Nat.{min}
 use mathlib.Core.Path.{◌≡◌}
 use native.Mathlib.Omega.{arith}
-use borrow.Author.Rules.{rules}
-use Rattle.lines.specs.Walks.{replaced_to, freed_states}
+use Rattle.lines.specs.Walks.{freed_states}
 use Rattle.lines.proofs.ReleasedLines.{replaced-none, replaced-more}
 use Rattle.lines.proofs.releasing.release_states.Goals as goal
 

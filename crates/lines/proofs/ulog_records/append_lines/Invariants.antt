@@ -1,18 +1,10 @@
 -- `append_lines` meets its contract. Before each turn the records of the lines passed are appended.
-use Prim.Native.Nat.{ℕ, ◌+◌, ◌-◌, ◌*◌, ◌≤◌, ◌<◌}
+use Prim.Native.Nat.{◌-◌, ◌*◌, ◌≤◌}
 use mathlib.Core.Bool.{Bool}
-use mathlib.Core.List.{List, [], map-append}
-use mathlib.Core.Path.{◌≡◌}
-use mathlib.Core.Logic.{⊎_elim}
-use native.Mathlib.Omega.{arith}
-use lib.ListN.{get_or, length-map}
-use Rattle.log_region.specs.declared.Record.TheVariants.{Redo}
-use Rattle.lines.specs.declared.Lines.{Lines}
-use Rattle.lines.specs.Lines.{line_at, first_lines}
-use Rattle.lines.specs.Newest.{lines_of, newest_in_line, redos_of, newest_words}
+use mathlib.Core.List.{List}
+use Rattle.lines.specs.Lines.{first_lines}
+use Rattle.lines.specs.Newest.{lines_of, redos_of, newest_words}
 use Rattle.log_region.specs.Appended.{Progressed}
-use Rattle.lines.proofs.NewestWords.{newest-nothing, newest-line, newest-other, newest-few}
-use Rattle.log_region.proofs.Appended.{progressed-none, progressed-then, progressed-length}
 use Rattle.lines.proofs.ulog_records.append_lines.Given as goal
 
 abbrev pub invariant-loop-i : goal.invariant-loop-i

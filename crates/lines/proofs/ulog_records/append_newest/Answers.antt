@@ -2,7 +2,6 @@
 use Prim.Native.Nat.{◌%◌, ◌≤◌, ◌<◌}
 use mathlib.Core.Path.{◌≡◌}
 use native.Mathlib.Omega.{arith}
-use borrow.Author.Rules.{rules}
 use lib.ListN.{length}
 use Rattle.log_region.specs.Region.{numbers}
 use Rattle.lines.specs.Newest.{lines_of}

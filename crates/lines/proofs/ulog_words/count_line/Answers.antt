@@ -1,6 +1,5 @@
 -- `count_line` meets its contract.
 use mathlib.Core.Path.{◌∙◌, sym, ap}
-use borrow.Author.Rules.{rules}
 use lib.ListN.{length}
 use Rattle.lines.proofs.NewestWords.{newest-count, newest-other}
 use Rattle.lines.proofs.ulog_words.count_line.Goals as goal

@@ -1,15 +1,11 @@
 -- `count_newest` meets its contract. Before each turn those in the lines passed are counted.
-use Prim.Native.Nat.{ℕ, ◌+◌, ◌-◌, ◌*◌, ◌≤◌, ◌<◌, min}
-use mathlib.Core.Path.{ap, ◌≡◌, sym, ◌∙◌}
+use Prim.Native.Nat.{◌-◌, ◌*◌, ◌≤◌, min}
+use mathlib.Core.Path.{◌≡◌}
 use mathlib.Core.Bool.{Bool}
-use mathlib.Core.List.{List, []}
-use native.Mathlib.Omega.{arith}
-use borrow.Author.Rules.{rules}
-use lib.ListN.{length-append, length}
-use Rattle.lines.specs.declared.Lines.{Lines}
-use Rattle.lines.specs.Lines.{line_at, first_lines}
-use Rattle.lines.specs.Newest.{lines_of, newest_in_line, newest_words}
-use Rattle.lines.proofs.NewestWords.{newest-nothing, newest-line, newest-few}
+use mathlib.Core.List.{List}
+use lib.ListN.{length}
+use Rattle.lines.specs.Lines.{first_lines}
+use Rattle.lines.specs.Newest.{lines_of, newest_words}
 use Rattle.lines.proofs.ulog_words.count_newest.Given as goal
 
 abbrev pub invariant-loop-i : goal.invariant-loop-i

@@ -1,17 +1,10 @@
 -- `count_ulog` meets its contract. `count` is how many of the first `j` words are ULog.
 use Prim.Native.Nat.{◌-◌, ◌≤◌}
-use mathlib.Core.Path.{◌≡◌, refl, sym, ◌∙◌}
-use mathlib.Core.Bool.{true, false}
-use mathlib.Core.Logic.{⊎_elim}
-use native.Mathlib.Omega.{arith}
-use borrow.Author.Rules.{rules}
-use borrow.Author.Tests.{eq-eqb, ne_eqb}
+use mathlib.Core.Path.{◌≡◌}
 use lib.Dec.{eqb}
 use lib.ListN.{length}
-use Rattle.parts.specs.Listed.{listed}
 use Rattle.parts.specs.States.{state_at, ULog}
 use Rattle.model.specs.Lists.{keep, up_to}
-use Rattle.lines.proofs.LineWords.{count_next}
 use Rattle.lines.proofs.ulog_words.count_ulog.Given as goal
 
 abbrev pub invariant-loop-j : goal.invariant-loop-j

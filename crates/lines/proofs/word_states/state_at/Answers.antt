@@ -1,7 +1,6 @@
 -- `state_at` meets its contract: two bits are read by shift and mask, and 16 bits have no ninth word.
 use mathlib.Core.Path.{sym}
 use Rattle.parts.proofs.States.{state-shifted, state-past}
-use borrow.Author.Rules.{rules}
 use Rattle.lines.proofs.word_states.state_at.Goals as goal
 
 pub returns-then-j-lt8 : goal.returns-then-j-lt8

@@ -1,7 +1,6 @@
 -- `state_of` meets its contract: the word's line is read, and of it the word's state.
 use Prim.Native.Nat.{ℕ, ◌%◌}
 use mathlib.Core.Path.{ap, ◌∙◌}
-use borrow.Author.Rules.{rules}
 use Rattle.parts.specs.States.{state_at}
 use Rattle.lines.proofs.word_states.state_of.Goals as goal
 

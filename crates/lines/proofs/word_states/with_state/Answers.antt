@@ -3,10 +3,9 @@ use Prim.Native.Nat.{◌+◌, ◌-◌, ◌*◌, ◌%◌, ◌^◌, ◌<◌}
 use mathlib.Core.Path.{◌≡◌}
 use mathlib.Core.Logic.{⊎_elim}
 use native.Mathlib.Omega.{arith}
-use borrow.Author.Tests.{ltb-true, lt-ltb, le-ltb}
+use borrow.Author.Tests.{lt-ltb, le-ltb}
 use Rattle.parts.specs.States.{with_state}
 use Rattle.parts.proofs.States.{state-shifted-le, state-replaced, state-fits}
-use borrow.Author.Rules.{rules}
 use Rattle.lines.proofs.word_states.with_state.Goals as goal
 use Rattle.lines.proofs.word_states.with_state.Goals.{After-state_at}
 

@@ -5,7 +5,6 @@ use native.Mathlib.Omega.{arith}
 use mathlib.Core.Bool.{true, false, ◌||◌}
 use mathlib.Core.Path.{◌≡◌}
 use mathlib.Core.List.{List, []}
-use borrow.Author.Rules.{rules}
 use borrow.Rule.Slice.PartMut.{mid_of, put_mid}
 use lib.Dec.{eqb, leb}
 use lib.ListN.{length}
@@ -44,7 +43,6 @@ pub returns-then-l-number : goal.returns-then-l-number
 returns-then-l-number c =
     let a = c.args in
     let l = c.slots-l in
-
     rw (← l.ensures) (record {
       value = (under_none a.supply a.log.now _ (none l.result a.number a.entry c.if-l-number.true)).0;
       log_after = (under_none a.supply a.log.now _ (none l.result a.number a.entry c.if-l-number.true)).1;

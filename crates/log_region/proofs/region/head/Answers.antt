@@ -1,7 +1,6 @@
 -- `region::head` meets its contract: word 0, or 0 where there is none.
 use mathlib.Core.Path.{sym}
 use native.Mathlib.Omega.{arith}
-use borrow.Author.Rules.{rules}
 use lib.ListN.{get_or-eq_default}
 use Rattle.log_region.proofs.region.head.Goals as goal
 

@@ -1,7 +1,6 @@
 -- `region::place` meets its contract: a remainder is below its divisor, so the place fits.
 use native.Mathlib.Nat.{mod-lt}
 use native.Mathlib.Omega.{arith}
-use borrow.Author.Rules.{rules}
 use Rattle.log_region.proofs.region.place.Goals as goal
 
 pub overflow_mul-result : goal.overflow_mul-result

@@ -3,7 +3,6 @@ use Prim.Native.Nat.{ℕ, ◌<◌}
 use native.Mathlib.Omega.{arith}
 use mathlib.Core.Path.{◌≡◌}
 use mathlib.Core.List.{[]}
-use borrow.Author.Rules.{rules}
 use Rattle.log_region.specs.Region.{head_stores}
 use Rattle.log_region.proofs.Stored.{under_none}
 use Rattle.log_region.proofs.Holding.{head-store}

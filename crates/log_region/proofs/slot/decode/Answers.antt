@@ -1,5 +1,4 @@
 -- `slot::decode` meets its contract: three words are decoded, any other number of them is no record.
-use borrow.Author.Rules.{rules}
 use borrow.Author.Tests.{eq-eqb, ne_eqb}
 use Rattle.log_region.proofs.slot.decode.Goals as goal
 

@@ -1,6 +1,5 @@
 -- `slot::header_of` meets its contract: each arm of the match packs the record's own fields.
 use mathlib.Core.Path.{sym, ap, ◌∙◌}
-use borrow.Author.Rules.{rules}
 use Rattle.log_region.specs.Layout.{header_of}
 use Rattle.log_region.proofs.slot.header_of.Goals as goal
 

@@ -3,7 +3,6 @@ use Prim.Native.Nat.{ℕ, ◌-◌}
 use mathlib.Core.Path.{◌≡◌, sym, ◌∙◌}
 use mathlib.Core.List.{List, [], ◌∷◌}
 use native.Mathlib.Omega.{arith}
-use borrow.Author.Rules.{rules}
 use Rattle.log_region.specs.Stores.{Store, stored_under}
 use Rattle.log_region.specs.Layout.{slot_stores, header_of, undo_of, redo_of}
 use Rattle.log_region.proofs.Stored.{under-append}

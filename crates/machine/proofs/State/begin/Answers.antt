@@ -1,9 +1,7 @@
 -- `State::begin` meets its contract: that of the step over no words and no supply, which a begin doesn't look at.
-use native.Mathlib.Omega.{arith}
 use Prim.Native.Nat.{ℕ}
 use mathlib.Core.Path.{◌≡◌, sym, ◌∙◌, ap}
 use mathlib.Core.List.{List}
-use borrow.Author.Rules.{rules}
 use Rattle.model.specs.Machine.{Memory}
 use Rattle.model.specs.Plan.{Outcome}
 use Rattle.model.specs.Step.{begin, stepped}

@@ -1,6 +1,4 @@
 -- `State::lost` meets its contract: the lost machine, with the state around it.
-use native.Mathlib.Omega.{arith}
-use borrow.Author.Rules.{rules}
 use Rattle.machine.proofs.State.lost.Goals as goal
 
 pub returns : goal.returns

@@ -1,7 +1,5 @@
 -- `State::recover` meets its contract: that of the step, with the state around its machine.
-use native.Mathlib.Omega.{arith}
 use mathlib.Core.Path.{ap}
-use borrow.Author.Rules.{rules}
 use Rattle.state.specs.declared.Machine.{Machine}
 use Rattle.machine.specs.Answers.{lost_state}
 use Rattle.machine.proofs.Around.{around}

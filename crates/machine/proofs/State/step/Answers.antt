@@ -1,6 +1,4 @@
 -- `State::step` meets its contract: that of the step, with the state around its machine.
-use native.Mathlib.Omega.{arith}
-use borrow.Author.Rules.{rules}
 use Rattle.machine.proofs.Around.{around-step}
 use Rattle.machine.proofs.State.step.Goals as goal
 

@@ -1,6 +1,4 @@
 -- `commits::closes` meets its contract: only the arm of a commit compares threads.
-use native.Mathlib.Omega.{arith}
-use borrow.Author.Rules.{rules}
 use Rattle.model.proofs.ClosedRecords.{commit-read}
 use Rattle.oldest.proofs.commits.closes.Goals as goal
 

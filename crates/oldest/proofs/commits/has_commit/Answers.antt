@@ -1,10 +1,5 @@
 -- `commits::has_commit` meets its contract: at each turn the records from the number on have a commit just where all of them have one.
-use Prim.Native.Nat.{◌-◌}
-use mathlib.Core.Path.{◌≡◌, refl, ◌∙◌, ap}
-use native.Mathlib.Omega.{arith}
-use borrow.Author.Rules.{rules}
-use Rattle.log_region.specs.Region.{read_from}
-use Rattle.model.specs.Readings.{records, closed}
+use mathlib.Core.Path.{refl, ◌∙◌, ap}
 use Rattle.model.specs.Readings.{closes as closes_thread}
 use Rattle.model.proofs.ClosedRecords.{closed-here, closed-next, closed_none}
 use Rattle.oldest.proofs.commits.has_commit.Goals as goal

@@ -1,8 +1,6 @@
 -- `data_record` meets its contract: the search decides.
-use native.Mathlib.Omega.{arith}
 use mathlib.Core.Path.{sym, ◌∙◌}
 use mathlib.Core.Bool.{true, false}
-use borrow.Author.Rules.{rules}
 use Rattle.oldest.proofs.OldestRecord.{data-by}
 use Rattle.oldest.proofs.in_log.data_record.Goals as goal
 

@@ -1,5 +1,4 @@
 -- `oldest_of` meets its contract: each arm of the match is a type of record.
-use native.Mathlib.Omega.{arith}
 use Rattle.oldest.proofs.OldestRecord.{oldest-by}
 use borrow.Author.Rules.{rules}
 use Rattle.oldest.proofs.in_log.oldest_of.Goals as goal

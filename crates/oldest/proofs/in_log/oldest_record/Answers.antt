@@ -1,10 +1,7 @@
 -- `oldest_record` meets its contract: there is no later record where the head is not below the tail.
-use native.Mathlib.Omega.{arith}
 use Prim.Native.Nat.{◌-◌}
 use mathlib.Core.Path.{◌≡◌, ap₂, ◌∙◌}
-use mathlib.Core.Logic.{⊎_elim}
 use Rattle.log_region.specs.Region.{read_from}
-use borrow.Author.Rules.{rules}
 use Rattle.oldest.specs.OldestIn.{oldest_of}
 use Rattle.oldest.proofs.OldestRecord.{later, later-next, later-none, oldest-missing, oldest-read}
 use Rattle.oldest.proofs.in_log.oldest_record.Goals as goal

@@ -1,7 +1,6 @@
 -- `room::no_room` meets its contract: its tests are the rows', and the verdict is the model's.
 use mathlib.Core.Path.{refl, sym, ap, ◌∙◌}
 use native.Mathlib.Omega.{arith}
-use borrow.Author.Rules.{rules}
 use Rattle.model.specs.Refusals.{why_full}
 use Rattle.model.proofs.Rows.{number-full, number-worn, number-none}
 use Rattle.state.specs.declared.Machine.{Machine}

@@ -1,12 +1,10 @@
 -- `verdicts::dirty_of` meets its contract: past the lines in use, and past the last flag, the default is read.
-use native.Mathlib.Omega.{arith}
 use Prim.Native.Nat.{◌/◌}
 use mathlib.Core.Bool.{true, false}
 use borrow.Author.Tests.{ltb-true}
 use lib.Dec.{ltb}
 use Rattle.model.proofs.Lists.{both_right}
 use Rattle.oldest.proofs.OldestRecord.{word-flag}
-use borrow.Author.Rules.{rules}
 use Rattle.oldest.proofs.verdicts.dirty_of.Goals as goal
 
 pub bounds-dirty-at : goal.bounds-dirty-at

@@ -1,8 +1,6 @@
 -- `verdict_by` meets its contract: a verdict for each that the log can say.
-use native.Mathlib.Omega.{arith}
 use mathlib.Core.Path.{sym, ◌∙◌}
 use mathlib.Core.Bool.{true, false}
-use borrow.Author.Rules.{rules}
 use Rattle.state.specs.View.{view}
 use Rattle.oldest.proofs.OldestRecord.{verdict-committed}
 use Rattle.oldest.proofs.verdicts.verdict_by.Goals as goal

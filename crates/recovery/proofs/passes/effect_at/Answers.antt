@@ -1,9 +1,7 @@
 -- `passes::effect_at` meets its contract: each arm of the match gives the effect of its type of record.
-use native.Mathlib.Omega.{arith}
 use mathlib.Core.Path.{refl, ◌∙◌}
 use Rattle.recovery.proofs.ReadOn.{thread-read}
 use Rattle.recovery.proofs.TwoPasses.{effect-good, effect-bad}
-use borrow.Author.Rules.{rules}
 use Rattle.recovery.proofs.passes.effect_at.Goals as goal
 
 pub is_closed-closed-requires : goal.is_closed-closed-requires

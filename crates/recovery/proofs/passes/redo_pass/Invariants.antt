@@ -1,8 +1,6 @@
 -- `passes::redo_pass` meets its contract: at each turn the stores from the number on are what is left of them all.
 use Prim.Native.Nat.{◌-◌}
-use native.Mathlib.Omega.{arith}
-use borrow.Author.Rules.{rules}
-use Rattle.recovery.proofs.TwoPasses.{Redoing, redoing-start, redoing-next, redoing-end}
+use Rattle.recovery.proofs.TwoPasses.{Redoing}
 use Rattle.recovery.proofs.passes.redo_pass.Given as goal
 
 abbrev pub invariant-loop-number : goal.invariant-loop-number

@@ -1,7 +1,5 @@
 -- `passes::store_all` meets its contract: the passes share the supply, and so make one list of stores.
-use native.Mathlib.Omega.{arith}
 use Rattle.recovery.proofs.TwoPasses.{lasts-found, order-found, both-passes}
-use borrow.Author.Rules.{rules}
 use Rattle.recovery.proofs.passes.store_all.Goals as goal
 
 -- a pair as the clauses of the contract

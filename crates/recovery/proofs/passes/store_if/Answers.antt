@@ -1,7 +1,5 @@
 -- `passes::store_if` meets its contract: one store, or none.
-use native.Mathlib.Omega.{arith}
 use Rattle.recovery.proofs.TwoPasses.{store-made, store-none}
-use borrow.Author.Rules.{rules}
 use Rattle.recovery.proofs.passes.store_if.Goals as goal
 
 -- a pair as the clauses of the contract

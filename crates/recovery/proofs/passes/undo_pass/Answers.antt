@@ -1,8 +1,5 @@
 -- `passes::undo_pass` meets its contract: after each turn the stores of as many records, the last ones, are made.
-use Prim.Native.Nat.{◌-◌}
-use native.Mathlib.Omega.{arith}
-use borrow.Author.Rules.{rules}
-use Rattle.recovery.proofs.TwoPasses.{Undoing, undoing-start, undoing-next, undoing-size, undoing-end}
+use Rattle.recovery.proofs.TwoPasses.{undoing-start, undoing-next, undoing-size, undoing-end}
 use Rattle.recovery.proofs.passes.undo_pass.Goals as goal
 
 -- a pair as the clauses of the contract

@@ -1,8 +1,6 @@
 -- `passes::undo_pass` meets its contract: after each turn the stores of as many records, the last ones, are made.
 use Prim.Native.Nat.{◌-◌}
-use native.Mathlib.Omega.{arith}
-use borrow.Author.Rules.{rules}
-use Rattle.recovery.proofs.TwoPasses.{Undoing, undoing-start, undoing-next, undoing-size, undoing-end}
+use Rattle.recovery.proofs.TwoPasses.{Undoing}
 use Rattle.recovery.proofs.passes.undo_pass.Given as goal
 
 abbrev pub invariant-loop-turn : goal.invariant-loop-turn

@@ -3,7 +3,6 @@ use mathlib.Core.Path.{refl, sym, ap, ◌∙◌}
 use native.Mathlib.Omega.{arith}
 use Rattle.log_region.specs.declared.Reading.TheVariants.{Good}
 use Rattle.recovery.proofs.ReadOn.{valid-read, valid-record}
-use borrow.Author.Rules.{rules}
 use Rattle.recovery.proofs.reading.note.Goals as goal
 
 pub bounds-last-t : goal.bounds-last-t
@@ -42,6 +41,6 @@ returns-in-Commit c =
 
 pub returns-in-Bad : goal.returns-in-Bad
 returns-in-Bad c = rw (sym c.read-reading.ensures ∙ c.in-Bad.is) record {
-      value = refl;
-      last_after = refl;
-    }
+  value = refl;
+  last_after = refl;
+}

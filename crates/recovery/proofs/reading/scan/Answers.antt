@@ -3,13 +3,12 @@ use Prim.Native.Nat.{◌<◌}
 use mathlib.Core.Bool.{true}
 use mathlib.Core.Path.{◌≡◌, sym, ◌∙◌}
 use native.Mathlib.Omega.{arith}
-use borrow.Author.Rules.{rules}
 use borrow.Author.Tests.{lt-ltb, ltb-true}
 use lib.Dec.{ltb}
 use Rattle.log_region.specs.Region.{is_written}
 use Rattle.log_region.proofs.Searching.{number-below}
 use Rattle.model.proofs.Lists.{both_left, both_right}
-use Rattle.recovery.proofs.Scanning.{Sofar, sofar-start, sofar-more, sofar-end}
+use Rattle.recovery.proofs.Scanning.{sofar-start, sofar-more, sofar-end}
 use Rattle.recovery.proofs.reading.scan.Goals as goal
 use Rattle.recovery.proofs.reading.scan.Goals.{In-loop-left}
 

@@ -1,9 +1,6 @@
 -- `recovering::copy` meets its contract: at each turn the words before the index are those of the other buffer.
-use native.Mathlib.Omega.{arith}
-use Prim.Native.Nat.{◌-◌}
-use mathlib.Core.Path.{◌≡◌, refl}
-use borrow.Author.Rules.{rules}
-use lib.ListN.{length, take, length-set}
+use mathlib.Core.Path.{refl}
+use lib.ListN.{length-set}
 use Rattle.recovery.proofs.RecoverStep.{copied_more, copied_all}
 use Rattle.recovery.proofs.recovering.copy.Goals as goal
 

@@ -1,9 +1,7 @@
 -- `recovering::copy` meets its contract: at each turn the words before the index are those of the other buffer.
 use Prim.Native.Nat.{◌-◌}
-use mathlib.Core.Path.{◌≡◌, refl}
-use borrow.Author.Rules.{rules}
-use lib.ListN.{length, take, length-set}
-use Rattle.recovery.proofs.RecoverStep.{copied_more, copied_all}
+use mathlib.Core.Path.{◌≡◌}
+use lib.ListN.{length, take}
 use Rattle.recovery.proofs.recovering.copy.Given as goal
 
 abbrev pub invariant-loop-i : goal.invariant-loop-i

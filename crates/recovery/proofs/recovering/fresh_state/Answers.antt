@@ -1,6 +1,4 @@
 -- `recovering::fresh_state` meets its contract: each part is as in the fresh state.
-use native.Mathlib.Omega.{arith}
-use borrow.Author.Rules.{rules}
 use Rattle.recovery.proofs.recovering.fresh_state.Goals as goal
 
 pub returns : goal.returns

@@ -6,7 +6,6 @@ use Rattle.model.specs.Refusals.{number_of}
 use Rattle.state.specs.View.{memory}
 use Rattle.recovery.specs.Recovering.{unreadable_rows}
 use Rattle.recovery.proofs.RecoverStep.{fits-unread, recover-unread, recover-damaged, recover-cut, recover-done}
-use borrow.Author.Rules.{rules}
 use Rattle.recovery.proofs.recovering.recover.Goals as goal
 use Rattle.recovery.proofs.recovering.recover.Goals.{Else-number-ne0}
 

@@ -8,7 +8,6 @@ use Rattle.log_region.specs.Region.{numbers, head_of}
 use Rattle.model.specs.Machine.{Memory}
 use Rattle.state.specs.View.{memory}
 use Rattle.recovery.proofs.RecoverStep.{unread-number}
-use borrow.Author.Rules.{rules}
 use Rattle.recovery.proofs.recovering.unreadable.Goals as goal
 use Rattle.recovery.proofs.recovering.unreadable.Goals.{After-wrong_lengths}
 

@@ -1,6 +1,4 @@
 -- `replaying::replay` meets its contract: a damaged log stores nothing, and any other what both passes store.
-use native.Mathlib.Omega.{arith}
-use borrow.Author.Rules.{rules}
 use Rattle.recovery.proofs.TwoPasses.{replay-damaged, replay-all}
 use Rattle.recovery.proofs.replaying.replay.Goals as goal
 

@@ -1,6 +1,4 @@
 -- `is_runnable` meets its contract.
-use native.Mathlib.Omega.{arith}
-use borrow.Author.Rules.{rules}
 use Rattle.runner.specs.Running.{runnable}
 use Rattle.runner.proofs.running.is_runnable.Goals as goal
 

@@ -1,19 +1,12 @@
 -- `run` meets its contract. Before each turn the steps passed are made.
-use Prim.Native.Nat.{ℕ, ◌+◌, ◌-◌, ◌*◌, ◌^◌, ◌≤◌, ◌<◌}
-use mathlib.Core.Path.{◌≡◌, refl, ◌∙◌}
+use Prim.Native.Nat.{◌-◌, ◌*◌, ◌^◌, ◌≤◌, ◌<◌}
+use mathlib.Core.Path.{◌≡◌}
 use mathlib.Core.Bool.{true}
-use mir.Syntax.{w64}
-use mir.Val.{Fits}
-use native.Mathlib.Omega.{arith}
-use borrow.Author.Rules.{rules}
-use lib.ListN.{length, length-set}
-use Rattle.model.specs.Plan.{Outcome}
-use Rattle.model.specs.Step.{stepped}
-use Rattle.model.specs.Run.{Timed}
-use Rattle.machine.specs.Answers.{view, shown}
+use lib.ListN.{length}
+use Rattle.machine.specs.Answers.{view}
 use Rattle.state.specs.View.{memory}
-use Rattle.runner.specs.Running.{Script, script, timed_at, runnable, at_first, reported}
-use Rattle.runner.proofs.StepsMade.{left-of, Alike, alike, Upto, upto-none, upto-more, upto_all, may-run, run-made, run-refused}
+use Rattle.runner.specs.Running.{script, timed_at, runnable, at_first}
+use Rattle.runner.proofs.StepsMade.{Alike, Upto}
 use Rattle.runner.proofs.running.run.Given as goal
 
 abbrev pub invariant-loop-i : goal.invariant-loop-i

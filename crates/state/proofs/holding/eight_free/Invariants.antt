@@ -1,16 +1,9 @@
 -- `holding::eight_free` meets its contract: the flag is the test of the lines so far.
-use Prim.Native.Nat.{ℕ, ◌+◌, ◌-◌, ◌≤◌}
-use mathlib.Core.Path.{◌≡◌, refl, sym, ap, ◌∙◌}
-use mathlib.Core.Bool.{Bool, ◌&&◌}
-use native.Mathlib.Omega.{arith}
-use borrow.Author.Tests.{le-leb, lt-leb}
-use lib.ListN.{get_or}
-use Rattle.parts.specs.declared.Line.{Line}
-use Rattle.parts.specs.Listed.{listed}
+use Prim.Native.Nat.{◌-◌, ◌≤◌}
+use mathlib.Core.Path.{◌≡◌}
 use Rattle.model.specs.Lists.{all}
-use Rattle.state.specs.StateOf.{bare_line, lines_from}
+use Rattle.state.specs.StateOf.{lines_from}
 use Rattle.state.specs.Linear.{line_free}
-use Rattle.state.proofs.Walking.{all_more}
 use Rattle.state.proofs.holding.eight_free.Given as goal
 
 abbrev pub invariant-loop-j : goal.invariant-loop-j

@@ -1,8 +1,6 @@
 -- `holding::line_sound` meets its contract: a holder below 8 is its own remainder by 8.
-use native.Mathlib.Omega.{arith}
 use mathlib.Core.Path.{ap}
 use mathlib.Core.Bool.{not}
-use borrow.Author.Rules.{rules}
 use Rattle.state.proofs.Opened.{line-held, line-free}
 use Rattle.state.proofs.holding.line_sound.Goals as goal
 

@@ -5,7 +5,7 @@ use mathlib.Core.Bool.{false}
 use native.Mathlib.Omega.{arith}
 use borrow.Author.Rules.{rules}
 use lib.ListN.{get_or}
-use Rattle.state.proofs.Opened.{BitsFrom, bits_none, bits-more, bits-all, bits-few, at_most_one}
+use Rattle.state.proofs.Opened.{bits_none, bits-more, bits-all, bits-few, at_most_one}
 use Rattle.state.proofs.holding.open_bits.Goals as goal
 
 pub loop-t-init : goal.loop-t-init

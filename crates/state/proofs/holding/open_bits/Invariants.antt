@@ -1,11 +1,6 @@
 -- `holding::open_bits` meets its contract: the bits so far are those of the threads from `t` on.
-use Prim.Native.Nat.{◌-◌, ◌≤◌}
-use mathlib.Core.Path.{◌≡◌}
-use mathlib.Core.Bool.{false}
-use native.Mathlib.Omega.{arith}
-use borrow.Author.Rules.{rules}
-use lib.ListN.{get_or}
-use Rattle.state.proofs.Opened.{BitsFrom, bits_none, bits-more, bits-all, bits-few, at_most_one}
+use Prim.Native.Nat.{◌≤◌}
+use Rattle.state.proofs.Opened.{BitsFrom}
 use Rattle.state.proofs.holding.open_bits.Given as goal
 
 abbrev pub invariant-loop-t : goal.invariant-loop-t

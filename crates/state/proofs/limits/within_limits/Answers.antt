@@ -1,9 +1,7 @@
 -- `limits::within_limits` meets its contract: the code's tests are the definition's.
-use native.Mathlib.Omega.{arith}
 use borrow.Author.Tests.{lt-leb, le-leb}
 use Rattle.log_region.specs.Region.{numbers}
 use Rattle.state.specs.Linear.{in_limits}
-use borrow.Author.Rules.{rules}
 use Rattle.state.proofs.limits.within_limits.Goals as goal
 
 pub returns-then-n-gt-NUMBERS : goal.returns-then-n-gt-NUMBERS

@@ -1,7 +1,5 @@
 -- `buffers::wrong_lengths` meets its contract: the code's test is the definition's.
-use native.Mathlib.Omega.{arith}
 use Rattle.model.specs.Refusals.{wrong_lengths}
-use borrow.Author.Rules.{rules}
 use Rattle.state.proofs.memory.wrong_lengths.Goals as goal
 
 pub returns : goal.returns

@@ -1,10 +1,7 @@
 -- `waiting_entries::each_waits` meets its contract: what is found from the entry at `i` on is what is found of all.
 use Prim.Native.Nat.{◌-◌, ◌≤◌}
-use native.Mathlib.Omega.{arith}
-use borrow.Author.Tests.{not-true, not-false}
-use borrow.Author.Rules.{rules}
 use Rattle.state.specs.Linear.{awaited, mark_of}
-use Rattle.state.proofs.Walking.{ReachedAt, reached-start, reached-more, reached-fails, reached-end}
+use Rattle.state.proofs.Walking.{ReachedAt}
 use Rattle.state.proofs.waiting_entries.each_waits.Given as goal
 
 abbrev pub invariant-loop-i : goal.invariant-loop-i

@@ -1,8 +1,7 @@
 -- `waiting_entries::waits` meets its contract, by what the arrays have of the entry's word.
 use Prim.Native.Nat.{◌%◌, ◌<◌}
 use native.Mathlib.Omega.{arith}
-use borrow.Author.Tests.{not-true, not-false, lt-ltb}
-use borrow.Author.Rules.{rules}
+use borrow.Author.Tests.{lt-ltb}
 use Rattle.state.specs.declared.awaited.Buffer.{Buffer}
 use Rattle.state.specs.declared.awaited.Buffer.TheVariants.{UndoRedo, Redo}
 use Rattle.state.specs.Linear.{awaited, mark_of}

@@ -1,6 +1,4 @@
 -- `lost` meets its contract: both buffers are empty to the last place.
-use native.Mathlib.Omega.{arith}
-use borrow.Author.Rules.{rules}
 use Rattle.state.proofs.ways_out.lost.Goals as goal
 
 pub returns : goal.returns

@@ -6,7 +6,6 @@ use mathlib.Core.List.{[]}
 use native.Mathlib.Decide.{dec_lt}
 use native.Mathlib.Nat.{sub-zero}
 use native.Mathlib.Omega.{arith}
-use borrow.Author.Rules.{rules}
 use borrow.Author.Tests.{lt-ltb, ltb-false}
 use lib.Dec.{ltb}
 use lib.ListN.{get_or, set}
@@ -46,7 +45,6 @@ begin-done m t n c mem zero number none =
 
 -- the number that the code computes
 module _ (c : After-refuse-number) where
-
   computed : c.refuse-number.result ≡ number_of (begin_rows (view c.args.state) c.args.thread)
   computed =
       begin-number (view c.args.state) c.args.thread c.refuse-number.result (simp (c.refuse-number.ensures, c.refuse.ensures))

@@ -1,6 +1,4 @@
 -- `commit_refusal` meets its contract.
-use native.Mathlib.Omega.{arith}
-use borrow.Author.Rules.{rules}
 use Rattle.steps.proofs.Commits.{commit-number}
 use Rattle.steps.proofs.committing.commit_refusal.Goals as goal
 

@@ -2,7 +2,6 @@
 use Prim.Native.Nat.{ℕ, ◌≤◌}
 use mathlib.Core.Path.{◌≡◌, refl, sym, ap, ◌∙◌}
 use native.Mathlib.Omega.{arith}
-use borrow.Author.Rules.{rules}
 use lib.ListN.{length}
 use Rattle.model.specs.Machine.{Memory}
 use Rattle.model.specs.Refusals.{number_of, no_room}
@@ -37,7 +36,6 @@ counted c =
 -- the number of the rows after the common ones
 later : (c : After-commit_refusal-number) → c.commit_refusal-number.result ≡ number_of (commit_rows (view c.args.state) (lent (goal.at.After-commit_refusal-number c).Start) c.args.thread)
 later c =
-
     c.commit_refusal-number.ensures (view c.args.state) (lent (goal.at.After-commit_refusal-number c).Start) (sym c.is_open-open.ensures)
     (c.no_room-room.ensures (lent (goal.at.After-commit_refusal-number c).Start) refl
     ∙ ap (λ (k : ℕ). number_of (no_room (view c.args.state) (lent (goal.at.After-commit_refusal-number c).Start) k)) (counted (goal.at.After-commit_refusal-number c).After-count_records-count))

@@ -2,7 +2,6 @@
 use Prim.Native.Nat.{◌*◌, ◌/◌, ◌≤◌, min}
 use mathlib.Core.List.{[]}
 use native.Mathlib.Omega.{arith}
-use borrow.Author.Rules.{rules}
 use Rattle.lines.specs.Lines.{first_lines}
 use Rattle.lines.specs.Newest.{lines_of}
 use Rattle.lines.proofs.NewestWords.{newest-few}

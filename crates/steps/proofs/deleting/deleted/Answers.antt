@@ -1,7 +1,6 @@
 -- `deleted` meets its contract: it is refused, cut, or moves the head on.
 use mathlib.Core.Path.{◌≡◌, refl, sym, ap, ◌∙◌}
 use native.Mathlib.Omega.{arith}
-use borrow.Author.Rules.{rules}
 use Rattle.parts.specs.declared.Verdict.{Verdict}
 use Rattle.model.specs.Machine.{Memory}
 use Rattle.model.specs.Refusals.{number_of}

@@ -1,6 +1,4 @@
 -- `deleting::refusal` meets its contract: a number for each verdict.
-use native.Mathlib.Omega.{arith}
-use borrow.Author.Rules.{rules}
 use Rattle.model.specs.Refusals.{number_of}
 use Rattle.steps.proofs.deleting.refusal.Goals as goal
 

@@ -1,7 +1,6 @@
 -- `evicting::evicted` meets its contract: refused, cut, or done.
 use Prim.Native.Nat.{◌+◌, ◌-◌, ◌%◌, ◌≤◌, ◌<◌}
 use mathlib.Core.Path.{◌≡◌, refl, sym, ap, ◌∙◌}
-use mathlib.Core.Logic.{⊎_elim}
 use native.Mathlib.Omega.{arith}
 use lib.ListN.{get_or, set}
 use lib.Seq.{set-get_or}
@@ -49,7 +48,6 @@ few c = omega (arith, redos-length c.args.state.redos, (fits c).clauses.redo_siz
 number : (c : After-line_refusal-number)
     → c.line_refusal-number.result ≡ number_of (evict_rows (view c.args.state) (lent (goal.at.After-line_refusal-number c).Start) c.args.line)
 number c =
-
     let count = c.lacking-count in
     let room = c.no_room-room in
     evict-number c.args.line c.args.state (lent (goal.at.After-line_refusal-number c).Start) count.result room.result c.line_refusal-number.result c.requires
@@ -58,7 +56,6 @@ number c =
 
 -- it is not refused
 module _ (c : Else-number-ne0) where
-
   none : number_of (evict_rows (view c.args.state) (lent (goal.at.Else-number-ne0 c).Start) c.args.line) ≡ 0
   none = sym (number (goal.at.Else-number-ne0 c).After-line_refusal-number) ∙ c.if-number-ne0.false
 

@@ -47,7 +47,6 @@ number c =
 -- what is known once it is not refused
 passed-known : (c : Else-number-ne0) → Known log_redo (view c.args.state) (lent (goal.at.Else-number-ne0 c).Start) 32 c.args.state.redos.len (records c.args.state) (redos_logged 1 (view c.args.state))
 passed-known c =
-
     let b = c.args.state.redos in
     let none = sym (number (goal.at.Else-number-ne0 c).After-refusal-number) ∙ c.if-number-ne0.false in
     known log_redo redo_record 32 b.len (redo_at b) (view c.args.state) (lent (goal.at.Else-number-ne0 c).Start) (redos_logged 1 (view c.args.state)) (λ d. omega (arith, d.redo_size))

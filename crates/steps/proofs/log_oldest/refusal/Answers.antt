@@ -1,6 +1,5 @@
 -- `refusal` meets its contract: whether there is an entry, then whether there is room for its record.
 use native.Mathlib.Omega.{arith}
-use borrow.Author.Rules.{rules}
 use Rattle.state.specs.View.{view}
 use Rattle.steps.proofs.LoggingOldest.{own-nothing, own_room}
 use Rattle.steps.proofs.log_oldest.refusal.Goals as goal

@@ -51,7 +51,6 @@ number c =
 -- what is known once it is not refused
 passed-known : (c : Else-number-ne0) → Known log_undo (view c.args.state) (lent (goal.at.Else-number-ne0 c).Start) 16 c.args.state.undos.len (records c.args.state) (undos_logged 1 (view c.args.state))
 passed-known c =
-
     let b = c.args.state.undos in
     let none = sym (number (goal.at.Else-number-ne0 c).After-refusal-number) ∙ c.if-number-ne0.false in
     known log_undo undo_redo_record 16 b.len (undo_at b) (view c.args.state) (lent (goal.at.Else-number-ne0 c).Start) (undos_logged 1 (view c.args.state)) (λ d. omega (arith, d.undo_size))

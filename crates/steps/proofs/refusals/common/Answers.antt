@@ -1,8 +1,6 @@
 -- `refusals::common` meets its contract: its rows are those of the table.
-use native.Mathlib.Omega.{arith}
 use Rattle.model.specs.Consistent.{consistent_with}
 use Rattle.model.specs.Refusals.{number_of}
-use borrow.Author.Rules.{rules}
 use Rattle.steps.proofs.refusals.common.Goals as goal
 
 pub returns : goal.returns

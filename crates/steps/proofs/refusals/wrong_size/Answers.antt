@@ -1,7 +1,5 @@
 -- `wrong_size` meets its contract: the code's test is the definition's.
-use native.Mathlib.Omega.{arith}
 use Rattle.model.specs.Refusals.{wrong_size}
-use borrow.Author.Rules.{rules}
 use Rattle.steps.proofs.refusals.wrong_size.Goals as goal
 
 pub returns : goal.returns

@@ -1,7 +1,5 @@
 -- `stepping::dispatch` meets its contract: each step's function meets its own.
-use native.Mathlib.Omega.{arith}
 use mathlib.Core.Path.{◌≡◌, subst}
-use borrow.Author.Rules.{rules}
 use Rattle.model.specs.Refusals.{number_of}
 use Rattle.state.specs.View.{view, memory}
 use Rattle.model.specs.Step.{Step, first_rows}
@@ -20,9 +18,9 @@ passed c s e =
 
 pub returns-in-Begin : goal.returns-in-Begin
 returns-in-Begin c = rw c.in-Begin.is record {
-      log_after = c.begun.ensures.log_value _;
-      handed_back = c.begun.ensures.handed_back;
-    }
+  log_after = c.begun.ensures.log_value _;
+  handed_back = c.begun.ensures.handed_back;
+}
 
 pub returns-in-LogRedo : goal.returns-in-LogRedo
 returns-in-LogRedo c = rw c.in-LogRedo.is c.redo_logged.ensures

@@ -1,8 +1,6 @@
 -- `stepping::first_refusal` meets its contract: the rows before a step's own, by the step.
-use native.Mathlib.Omega.{arith}
 use Prim.Native.Nat.{ℕ}
 use mathlib.Core.Path.{◌≡◌, refl}
-use borrow.Author.Rules.{rules}
 use Rattle.model.specs.Machine.{Machine, Memory}
 use Rattle.model.specs.Refusals.{number_of, common}
 use Rattle.state.specs.View.{view}

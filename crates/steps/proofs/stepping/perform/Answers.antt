@@ -1,9 +1,6 @@
 -- `stepping::perform` meets its contract: the state is tested once, and the step does the rest.
-use native.Mathlib.Omega.{arith}
 use mathlib.Core.Path.{◌≡◌, refl, sym, ◌∙◌}
 use mathlib.Core.Bool.{true, false≢true}
-use mathlib.Core.Logic.{⊎_elim}
-use borrow.Author.Rules.{rules}
 use Rattle.model.specs.Machine.{Memory}
 use Rattle.model.specs.Consistent.{consistent}
 use Rattle.model.specs.Refusals.{number_of}
@@ -28,7 +25,6 @@ sound c takes =
 
 -- the number of the rows before the step's own
 module _ (c : After-first_refusal-number) where
-
   abbrev lent : Memory
   lent = memory c.args.home.now c.args.working.now c.args.log.now
 

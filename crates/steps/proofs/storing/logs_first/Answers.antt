@@ -5,7 +5,6 @@ use mathlib.Core.List.{List}
 use native.Mathlib.Omega.{arith}
 use mathlib.Core.Bool.{true, false}
 use lib.ListN.{length, get_or}
-use borrow.Author.Rules.{rules}
 use Rattle.buffers.specs.Waiting.{undos_waiting}
 use Rattle.parts.specs.States.{state_at}
 use Rattle.lines.proofs.LinesInUse.{state-there}

@@ -57,7 +57,6 @@ returns-then-entry c mem was =
 
 -- another value comes, and the line is claimed
 module _ (c : After-put_flag) where
-
   abbrev s : Machine
   s = c.args.state
 
@@ -119,7 +118,6 @@ few-first here =
 
 -- room is (goal.at.After-mark_logged c).After-mark_logged for the entry of a Clean word
 module _ (c : After-mark_logged) where
-
   abbrev count : ℕ
   count = c.args.count
 
@@ -170,7 +168,6 @@ overflow_add-state-in-0 c =
 
 -- a Clean word has its first entry, and is Dirty
 module _ (c : After-mark) where
-
   abbrev entries : UndoBuffer
   entries =
       record {
@@ -204,7 +201,6 @@ module _ (c : After-mark) where
 
 -- the place of the word's redo entry was looked for
 module _ (c : After-find-old) where
-
   redo-place : c.find-old.result ≡ index_of (e (goal.at.After-find-old c).After-put_flag).word (redos_waiting (s (goal.at.After-find-old c).After-put_flag).redos)
   redo-place =
       let d = (s (goal.at.After-find-old c).After-put_flag).redos in
@@ -228,7 +224,6 @@ returns-else-old-len c mem was =
 
 -- a Dirty word has an entry already, and the place of its oldest one was looked for
 module _ (c : After-find-at) where
-
   place : c.find-at.result ≡ index_of (e (goal.at.After-find-at c).After-put_flag).word (undos_waiting (s (goal.at.After-find-at c).After-put_flag).undos)
   place =
       let d = (s (goal.at.After-find-at c).After-put_flag).undos in

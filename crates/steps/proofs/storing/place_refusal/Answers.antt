@@ -1,6 +1,4 @@
 -- `place_refusal` is the number of the rows on thread and word.
-use native.Mathlib.Omega.{arith}
-use borrow.Author.Rules.{rules}
 use Rattle.model.specs.Refusals.{number_of}
 use Rattle.steps.proofs.storing.place_refusal.Goals as goal
 

@@ -1,6 +1,4 @@
 -- `store_refusal` is the first of its numbers that applies.
-use native.Mathlib.Omega.{arith}
-use borrow.Author.Rules.{rules}
 use Rattle.model.specs.Refusals.{number_of}
 use Rattle.steps.proofs.storing.store_refusal.Goals as goal
 

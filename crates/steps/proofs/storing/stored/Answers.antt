@@ -3,8 +3,6 @@ use Prim.Native.Nat.{ℕ, ◌/◌, ◌≤◌}
 use mathlib.Core.Path.{◌≡◌, refl, sym, ◌∙◌}
 use mathlib.Core.Bool.{Bool}
 use mathlib.Core.List.{List}
-use mathlib.Core.Logic.{⊎_elim}
-use borrow.Author.Rules.{rules}
 use native.Mathlib.Omega.{arith}
 use lib.Dec.{eqb}
 use lib.ListN.{length, get_or}
@@ -51,7 +49,6 @@ returns-then-place-ne0 c =
 
 -- none of them refuses the store
 module _ (c : Else-place-ne0) where
-
   known-here : Known c.args.state (lent (goal.at.Else-place-ne0 c).Start) c.args.target.thread c.args.target.word c.args.target.value
   known-here =
       known c.args.state (lent (goal.at.Else-place-ne0 c).Start) c.args.target.thread c.args.target.word c.args.target.value c.requires.log_value
@@ -98,7 +95,6 @@ logs_first-count-requires c =
 
 -- how many entries are logged first
 module _ (c : After-logs_first-count) where
-
   abbrev same : Bool
   same = eqb c.args.target.value (get_or c.args.working.now c.args.target.word 0)
 
@@ -116,7 +112,6 @@ module _ (c : After-logs_first-count) where
 
 -- the late rows decide then
 module _ (c : After-store_refusal-own) where
-
   late-here : c.store_refusal-own.result
       ≡ number_of (store_rows (view c.args.state) (lent (goal.at.After-store_refusal-own c).Start) c.args.target.thread c.args.target.word c.args.target.value)
   late-here =
@@ -146,7 +141,6 @@ logged_none k m c log n e = rw e (appended-none c log n)
 
 -- no row refuses the store, and the entries that come first are logged
 module _ (c : Joined-count-ne0) where
-
   known-entry : Known c.args.state (lent (goal.at.Joined-count-ne0 c).Start) c.args.target.thread c.args.target.word c.args.target.value
   known-entry = known-here (goal.at.Joined-count-ne0 c).Else-place-ne0
 

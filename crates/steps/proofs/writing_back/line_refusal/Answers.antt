@@ -1,11 +1,9 @@
 -- `writing_back::line_refusal` meets its contract: each row is tested before the next.
-use native.Mathlib.Omega.{arith}
 use Prim.Native.Nat.{◌/◌}
 use mathlib.Core.Path.{ap, ◌∙◌}
 use mathlib.Core.Bool.{Bool, cond}
 use lib.Dec.{leb}
 use Rattle.model.specs.Refusals.{place, pending_line}
-use borrow.Author.Rules.{rules}
 use Rattle.steps.proofs.writing_back.line_refusal.Goals as goal
 
 pub returns : goal.returns

@@ -1,6 +1,4 @@
 -- `waits_for` meets its contract: for each buffer the state that its entries wait for, and any other.
-use native.Mathlib.Omega.{arith}
-use borrow.Author.Rules.{rules}
 use borrow.Author.Tests.{ne_eqb}
 use Rattle.parts.specs.States.{Clean, Dirty}
 use Rattle.state.proofs.awaited.Buffer.waits_for.Goals as goal

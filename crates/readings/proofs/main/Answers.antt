@@ -11,4 +11,5 @@ pub slice_bounds-line-end : goal.slice_bounds-line-end
 slice_bounds-line-end c = within (goal.at.slice_bounds-line-end c).After-finish-length
 
 pub slice_bounds-write_all-end : goal.slice_bounds-write_all-end
-slice_bounds-write_all-end c = sym (length-take-le _ _ (within (goal.at.slice_bounds-write_all-end c).After-finish-length))
+slice_bounds-write_all-end c =
+    sym (length-take-le _ _ (within (goal.at.slice_bounds-write_all-end c).After-finish-length))

@@ -24,4 +24,5 @@ returns-in-Value c =
     (c.read_as.ensures ∙ ap (λ (w : ℕ). read_as w c.args.text.now) word)
 
 pub returns-in-Invalid : goal.returns-in-Invalid
-returns-in-Invalid c = by_digits (goal.at.returns-in-Invalid c).After-number_of_digits _ _ c.in-Invalid.is c.no_word-in-Invalid.ensures
+returns-in-Invalid c =
+    by_digits (goal.at.returns-in-Invalid c).After-number_of_digits _ _ c.in-Invalid.is c.no_word-in-Invalid.ensures

@@ -20,7 +20,8 @@ slice_bounds-own-end c = let p = printed (goal.at.slice_bounds-own-end c).After-
 
 pub slice_bounds-same-end : goal.slice_bounds-same-end
 slice_bounds-same-end c =
-    (printed (goal.at.slice_bounds-same-end c).After-print-n).size ∙ sym (ap length (text-printed (goal.at.slice_bounds-same-end c).After-print-n))
+    (printed (goal.at.slice_bounds-same-end c).After-print-n).size
+    ∙ sym (ap length (text-printed (goal.at.slice_bounds-same-end c).After-print-n))
 
 -- the comparison is that with the word's text
 compared : (c : After-same)

@@ -10,15 +10,21 @@ use Rattle.reading.proofs.printing.print.Goals.{After-decimal_length, After-last
 
 -- the count, as the calls after it are handed it
 tenths-read : (c : After-tenths_of-tenths) → to_z w64 (of_z w64 c.tenths_of-tenths.result) ≡ signed c.args.word
-tenths-read c = to_z-of_z w64 c.tenths_of-tenths.result (record { sfits = c.tenths_of-tenths.type_inv }) ∙ c.tenths_of-tenths.ensures
+tenths-read c =
+    to_z-of_z w64 c.tenths_of-tenths.result (record { sfits = c.tenths_of-tenths.type_inv })
+    ∙ c.tenths_of-tenths.ensures
 
 whole : (c : After-whole_part-whole) → c.whole_part-whole.result ≡ whole_part (signed c.args.word)
-whole c = c.whole_part-whole.ensures ∙ ap whole_part (tenths-read (goal.at.After-whole_part-whole c).After-tenths_of-tenths)
+whole c =
+    c.whole_part-whole.ensures
+    ∙ ap whole_part (tenths-read (goal.at.After-whole_part-whole c).After-tenths_of-tenths)
 
 -- how many digits it has, and the text's length by that
 digits : (c : After-decimal_length)
     → c.decimal_length.result ≡ length (decimal (whole_part (signed c.args.word)))
-digits c = c.decimal_length.ensures.value ∙ ap (λ (n : ℕ). length (decimal n)) (whole (goal.at.After-decimal_length c).After-whole_part-whole)
+digits c =
+    c.decimal_length.ensures.value
+    ∙ ap (λ (n : ℕ). length (decimal n)) (whole (goal.at.After-decimal_length c).After-whole_part-whole)
 
 text-size : (c : After-decimal_length)
     → length (text_of c.args.word) ≡ c.args.word / 2 ^ 63 + c.decimal_length.result + 2
@@ -64,17 +70,21 @@ shape_of-text c = simp length-set (omega (arith, kept (goal.at.shape_of-text c).
 tenth : (c : After-last_digit)
     → c.last_digit.result ≡ digit (tenth_part (signed c.args.word))
 tenth c =
-    c.last_digit.ensures
-    ∙ ap (λ (n : ℕ). digit (n % 10)) (c.tenth_part.ensures ∙ ap tenth_part (tenths-read (goal.at.After-last_digit c).After-tenths_of-tenths))
+    let read = tenths-read (goal.at.After-last_digit c).After-tenths_of-tenths in
+    c.last_digit.ensures ∙ ap (λ (n : ℕ). digit (n % 10)) (c.tenth_part.ensures ∙ ap tenth_part read)
     ∙ ap digit (mod-eq_of_lt (tenth-small (signed c.args.word)))
 
 pub returns : goal.returns
 unfolding count_text
 returns c =
     let word = c.args.word in
-    let f = c.ranges.word.fits in
+    let start = word / 2 ^ 63 in
     let places = c.decimal_length.result in
-    filled-whole (text_of word) c.args.text.now (word / 2 ^ 63 + places + 2) _ (text-size (goal.at.returns c).After-decimal_length) (omega arith)
-    (rw (tenth (goal.at.returns c).After-last_digit) (stored (sign_of (signed word)) c.args.text.now (word / 2 ^ 63) places (whole_part (signed word)) (digit (tenth_part (signed word)))
-    (sign-length word f) (digits (goal.at.returns c).After-decimal_length) (omega arith) c.if-start-eq1.text _ (signed-buffer (goal.at.returns c).Joined-start-eq1)
+    let measured = (goal.at.returns c).After-decimal_length in
+    let tenths = signed word in
+    filled-whole (text_of word) c.args.text.now (start + places + 2) _ (text-size measured) (omega arith)
+    (rw (tenth (goal.at.returns c).After-last_digit)
+    (stored (sign_of tenths) c.args.text.now start places (whole_part tenths) (digit (tenth_part tenths))
+    (sign-length word c.ranges.word.fits) (digits measured) (omega arith) c.if-start-eq1.text _
+    (signed-buffer (goal.at.returns c).Joined-start-eq1)
     (c.fill_decimal.ensures ∙ ap (last_digits _) (whole (goal.at.returns c).After-whole_part-whole))))

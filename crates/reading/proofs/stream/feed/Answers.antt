@@ -27,19 +27,22 @@ same_length c =
 end-in-buffer : (c : At-loop-i) → c.loop-i.end ≤ length c.loop-i.buffer
 end-in-buffer c =
     let a = c.args in
-    let e = end-within a.number a.piece.now a.buffer.now (room (goal.at.At-loop-i c).Else-buffer-piece) _ _ _ _ c.loop-i.invariant in
+    let large = room (goal.at.At-loop-i c).Else-buffer-piece in
+    let e = end-within a.number a.piece.now a.buffer.now large _ _ _ _ c.loop-i.invariant in
     let w = c.loop-i.invariant.within in
-    omega (arith, room (goal.at.At-loop-i c).Else-buffer-piece, same_length c)
+    omega (arith, same_length c)
 
 -- what stands in the buffer after one byte more
 read-more : (c : After-feed_byte-fed)
     → let a = c.args in
     let l = c.loop-i in
     let r = c.feed_byte-fed.result in
-    FedTo a.number a.piece.now a.buffer.now (put_mid l.end (length l.buffer - l.end) l.buffer c.feed_byte-fed.new.buffer) r.number (l.end + r.length) (l.i + 1)
+    let buffer = put_mid l.end (length l.buffer - l.end) l.buffer c.feed_byte-fed.new.buffer in
+    FedTo a.number a.piece.now a.buffer.now buffer r.number (l.end + r.length) (l.i + 1)
 read-more c =
     let a = c.args in
-    byte-read a.number a.piece.now a.buffer.now (room (goal.at.After-feed_byte-fed c).Else-buffer-piece) _ _ _ _ c.loop-i.invariant (omega arith)
+    let large = room (goal.at.After-feed_byte-fed c).Else-buffer-piece in
+    byte-read a.number a.piece.now a.buffer.now large _ _ _ _ c.loop-i.invariant (omega arith)
     c.feed_byte-fed.result _ c.feed_byte-fed.ensures
 
 pub loop-i-preserved : goal.loop-i-preserved
@@ -48,13 +51,16 @@ loop-i-preserved c = read-more (goal.at.loop-i-preserved c).After-feed_byte-fed
 pub overflow_add-end : goal.overflow_add-end
 overflow_add-end c =
     let a = c.args in
-    let e = end-within a.number a.piece.now a.buffer.now (room (goal.at.overflow_add-end c).Else-buffer-piece) _ _ _ _ (read-more (goal.at.overflow_add-end c).After-feed_byte-fed) in
-    omega (arith, room (goal.at.overflow_add-end c).Else-buffer-piece)
+    let large = room (goal.at.overflow_add-end c).Else-buffer-piece in
+    let more = read-more (goal.at.overflow_add-end c).After-feed_byte-fed in
+    let e = end-within a.number a.piece.now a.buffer.now large _ _ _ _ more in
+    omega arith
 
 pub returns : goal.returns
 returns c =
     let a = c.args in
-    all_read a.number a.piece.now a.buffer.now (room (goal.at.returns c).Else-buffer-piece) _ _ _ _ c.loop-i.invariant c.loop-i-test.false
+    let large = room (goal.at.returns c).Else-buffer-piece in
+    all_read a.number a.piece.now a.buffer.now large _ _ _ _ c.loop-i.invariant c.loop-i-test.false
 
 pub slice_bounds-feed_byte-count : goal.slice_bounds-feed_byte-count
 slice_bounds-feed_byte-count c =

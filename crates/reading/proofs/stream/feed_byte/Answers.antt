@@ -14,15 +14,16 @@ returns-then-buffer-lt-LINE c =
 pub returns-then-byte-eq-LINE_FEED : goal.returns-then-byte-eq-LINE_FEED
 returns-then-byte-eq-LINE_FEED c =
     let a = c.args in
+    let put = c.put_line-length in
     let line = line-longest a.number in
-    let known =
-    filled-known (printed_line a.number) a.buffer.now c.put_line-length.result c.put_line-length.new.buffer (omega arith)
-    c.put_line-length.ensures in
+    let known = filled-known (printed_line a.number) a.buffer.now put.result put.new.buffer (omega arith) put.ensures in
     rw (ap (λ (w : Written). w.length) known.0, known.1)
-    (fed-whole a.number (a.byte ∷ []) a.buffer.now _ (omega arith) (read-line-feed a.number a.byte c.if-byte-eq-LINE_FEED.true))
+    (fed-whole a.number (a.byte ∷ []) a.buffer.now _ (omega arith)
+    (read-line-feed a.number a.byte c.if-byte-eq-LINE_FEED.true))
 
 pub returns : goal.returns
 returns c =
     let a = c.args in
     rw c.with_byte.ensures
-    (fed-whole a.number (a.byte ∷ []) a.buffer.now _ (omega arith) (read-other a.number a.byte c.if-byte-eq-LINE_FEED.false))
+    (fed-whole a.number (a.byte ∷ []) a.buffer.now _ (omega arith)
+    (read-other a.number a.byte c.if-byte-eq-LINE_FEED.false))

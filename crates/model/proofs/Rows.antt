@@ -187,7 +187,7 @@ own-refusals log_redo m mem = oldest-refusals m mem (redo_records 1 m)
 own-refusals (evict i) m mem = (refl, (refl, room-refusals m mem _))
 own-refusals (write_back i) m mem = (refl, (refl, tt))
 own-refusals (commit t) m mem = (refl, (refl, room-refusals m mem _))
-own-refusals delete_oldest m mem = verdict-refusals (verdict m mem)
+own-refusals delete_oldest m mem = verdict-refusals _
 own-refusals recover m mem = (refl, (refl, (refl, tt)))
 
 pub first-refusals : (s : Step) (m : Machine) (mem : Memory) → Refusals (first_rows s m mem)

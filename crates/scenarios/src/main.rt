@@ -2,7 +2,7 @@
 // what came out beside what is expected.
 #![tactic(auto)]
 
-ghost use Rattle.std.specs.Prelude.{◌≤◌, length, IfOk};
+ghost use Rattle.std.specs.Io.{ReadsAtMost};
 
 mod acts;
 mod bench;
@@ -22,9 +22,9 @@ use std::io::Read;
 // The room for the table.
 const ROOM: usize = 65536;
 
-// Reads until the buffer is full or the input ends. How many bytes it put at the buffer's start.
+// Reads until the buffer is full or the input ends, and tells how many bytes it put at the buffer's start.
 fn read_full(input: &mut impl Read, buffer: &mut [u8]) -> io::Result<usize>
-    ensures { IfOk result (λ n. n ≤ length buffer.new) }
+    ensures { ReadsAtMost result buffer.new }
 {
     let mut done = 0;
     while done < buffer.len() {

@@ -15,9 +15,11 @@ mod the_step;
 mod wrapping;
 
 use list_steps::Totals;
+use std::io;
+use std::io::Print;
 
 // "The digest of 100 lists is one more fold: starting with 0, the digests of lists 100i, 100i + 1, .. are folded in."
-fn hundred(i: u64, before: Totals) -> Totals {
+fn hundred(rt: &impl Print, i: u64, before: Totals) -> io::Result<Totals> {
     let mut totals = before;
     totals.digest = 0;
     let mut j = 0;
@@ -25,11 +27,11 @@ fn hundred(i: u64, before: Totals) -> Totals {
         totals = list_steps::with_list(wrapping::sum(i, j), totals);
         j += 1;
     }
-    printing::digest(totals.digest);
-    totals
+    printing::digest(rt, totals.digest)?;
+    Ok(totals)
 }
 
-fn main() {
+fn main(rt: HostRuntime) -> io::Result<()> {
     let mut totals = Totals {
         digest: 0,
         steps: 0,
@@ -37,10 +39,10 @@ fn main() {
     };
     let mut i = 0;
     while i < 36 {
-        totals = hundred(100 * i, totals);
+        totals = hundred(&rt, 100 * i, totals)?;
         i += 1;
     }
     let counts = totals.counts;
-    printing::answers(counts);
-    printing::total(totals.steps);
+    printing::answers(&rt, counts)?;
+    printing::total(&rt, totals.steps)
 }

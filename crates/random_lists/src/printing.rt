@@ -1,40 +1,41 @@
 // "What is printed"
-use libc::STDOUT_FILENO;
+use std::io;
+use std::io::Print;
 
-fn print(text: &[u8]) {
-    io::write_all(STDOUT_FILENO, text);
+fn print(rt: &impl Print, text: &[u8]) -> io::Result<()> {
+    rt.write_all(text)
 }
 
 // A number after its label
-fn number(label: &[u8], n: u64) {
-    print(label);
-    io::print_decimal(STDOUT_FILENO, n);
+fn number(rt: &impl Print, label: &[u8], n: u64) -> io::Result<()> {
+    print(rt, label)?;
+    print!(rt; "{n}")
 }
 
 // "16 lower-case hexadecimal digits, one line each"
-pub(crate) fn digest(n: u64) {
-    io::print_hex(STDOUT_FILENO, n, 16);
-    print(b"\n");
+pub(crate) fn digest(rt: &impl Print, n: u64) -> io::Result<()> {
+    print!(rt; "{n:016x}")?;
+    print(rt, b"\n")
 }
 
 // "a line `answer A N`"
-fn answer(a: u64, n: u64) {
-    number(b"answer ", a);
-    number(b" ", n);
-    print(b"\n");
+fn answer(rt: &impl Print, a: u64, n: u64) -> io::Result<()> {
+    number(rt, b"answer ", a)?;
+    number(rt, b" ", n)?;
+    print(rt, b"\n")
 }
 
-pub(crate) fn answers(counts: [u64; 19]) {
+pub(crate) fn answers(rt: &impl Print, counts: [u64; 19]) -> io::Result<()> {
     let mut a = 0;
     while a < 18 {
-        answer(a, counts[(a % 18) as usize]);
+        answer(rt, a, counts[(a % 18) as usize])?;
         a += 1;
     }
-    answer(255, counts[18]);
+    answer(rt, 255, counts[18])
 }
 
 // "Then `lists 3600, steps M`."
-pub(crate) fn total(steps: u64) {
-    number(b"lists 3600, steps ", steps);
-    print(b"\n");
+pub(crate) fn total(rt: &impl Print, steps: u64) -> io::Result<()> {
+    number(rt, b"lists 3600, steps ", steps)?;
+    print(rt, b"\n")
 }

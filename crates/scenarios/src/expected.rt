@@ -1,6 +1,8 @@
 // The words that a buffer is expected to have at the end.
 use crate::lists::{least, same};
 use crate::output::{print, rows};
+use std::io;
+use std::io::Print;
 
 // The room for words.
 pub const WORDS: usize = 64;
@@ -32,16 +34,17 @@ impl Expected {
     }
 
     // The words that are shown.
-    pub(crate) fn shows(self, label: &[u8], words: [u64; 64]) {
+    pub(crate) fn shows(self, rt: &impl Print, label: &[u8], words: [u64; 64]) -> io::Result<()> {
         let expected = self.words;
-        rows(label, self.shown, &words, &expected);
+        rows(rt, label, self.shown, &words, &expected)
     }
 
     // The text, where one of the other words is not 0.
-    pub(crate) fn warns(self, text: &[u8], words: [u64; 64]) {
+    pub(crate) fn warns(self, rt: &impl Print, text: &[u8], words: [u64; 64]) -> io::Result<()> {
         let expected = self.words;
         if !same(self.shown, WORDS, &words, &expected) {
-            print(text);
+            print(rt, text)?;
         }
+        Ok(())
     }
 }

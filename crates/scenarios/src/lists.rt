@@ -1,6 +1,5 @@
 // Lists of numbers.
-ghost use Rattle.std.specs.Prelude.{◌≤◌};
-ghost use Rattle.io.specs.Counts.{IsPrefixLen};
+ghost use Rattle.std.specs.Prelude.{◌≡◌, ◌≤◌, length, take};
 
 // A number as a place, at most b.
 pub(crate) fn least(a: u64, b: usize) -> usize
@@ -11,7 +10,8 @@ pub(crate) fn least(a: u64, b: usize) -> usize
 
 // As many of a list's numbers as there are, up to n.
 pub(crate) fn within(n: u64, list: &[u64]) -> usize
-    ensures { IsPrefixLen result list.now }
+    ensures within { result ≤ length list.now }
+    ensures taken { result ≡ length (take result list.now) }
 {
     least(n, list.len())
 }

@@ -2,6 +2,8 @@
 // what came out beside what is expected.
 #![tactic(auto)]
 
+ghost use Rattle.std.specs.Io.{ReadsAtMost};
+
 mod acts;
 mod bench;
 mod by_method;
@@ -14,15 +16,33 @@ mod report;
 mod scenario;
 mod states;
 
+use std::io;
+use std::io::Read;
+
 // The room for the table.
 const ROOM: usize = 65536;
 
-fn main() {
-    let mut text = io::large_buffer();
-    let n = io::read_full(libc::STDIN_FILENO, &mut text);
+// Reads until the buffer is full or the input ends, and tells how many bytes it put at the buffer's start.
+fn read_full(input: &mut impl Read, buffer: &mut [u8]) -> io::Result<usize>
+    ensures { ReadsAtMost result buffer.new }
+{
+    let mut done = 0;
+    while done < buffer.len() {
+        let n = input.read(&mut buffer[done..])?;
+        if n == 0 {
+            break;
+        }
+        done += n;
+    }
+    Ok(done)
+}
+
+fn main(rt: HostRuntime) -> io::Result<()> {
+    let mut text = [0; ROOM];
+    let n = read_full(&mut rt.reader(), &mut text)?;
     if n < ROOM {
-        output::total(scenario::all(&text[..n]));
+        output::total(&rt, scenario::all(&rt, &text[..n])?)
     } else {
-        output::print(b"the table is too long\n");
+        output::print(&rt, b"the table is too long\n")
     }
 }

@@ -1,5 +1,6 @@
 // Words and numbers on standard output, and the count of the scenarios.
-use libc::STDOUT_FILENO;
+use std::io;
+use std::io::Print;
 
 // How many scenarios have run, and how many of them came out wrong.
 #[derive(Clone, Copy)]
@@ -17,59 +18,66 @@ impl Tally {
     }
 }
 
-pub(crate) fn print(text: &[u8]) {
-    io::write_all(STDOUT_FILENO, text);
+pub(crate) fn print(rt: &impl Print, text: &[u8]) -> io::Result<()> {
+    rt.write_all(text)
 }
 
-pub(crate) fn number(n: u64) {
-    io::print_decimal(STDOUT_FILENO, n);
+pub(crate) fn number(rt: &impl Print, n: u64) -> io::Result<()> {
+    print!(rt; "{n}")
 }
 
 // The first n numbers of a list, a blank before each.
-fn numbers(n: usize, list: &[u64]) {
+fn numbers(rt: &impl Print, n: usize, list: &[u64]) -> io::Result<()> {
     let mut i = 0;
     while i < n {
         if i < list.len() {
-            print(b" ");
-            number(list[i]);
+            print(rt, b" ")?;
+            number(rt, list[i])?;
         }
         i += 1;
     }
+    Ok(())
 }
 
 // The first n numbers that came out, and those expected.
-pub(crate) fn rows(label: &[u8], n: usize, got: &[u64], expected: &[u64]) {
-    print(label);
-    numbers(n, got);
-    print(b" =");
-    numbers(n, expected);
+pub(crate) fn rows(
+    rt: &impl Print,
+    label: &[u8],
+    n: usize,
+    got: &[u64],
+    expected: &[u64],
+) -> io::Result<()> {
+    print(rt, label)?;
+    numbers(rt, n, got)?;
+    print(rt, b" =")?;
+    numbers(rt, n, expected)
 }
 
 // A word's 16 hexadecimal digits, a blank before them.
-fn word(n: u64) {
-    print(b" ");
-    io::print_hex(STDOUT_FILENO, n, 16);
+fn word(rt: &impl Print, n: u64) -> io::Result<()> {
+    print(rt, b" ")?;
+    print!(rt; "{n:016x}")
 }
 
 // The words of a slot.
-pub(crate) fn words(slot: [u64; 3]) {
-    word(slot[0]);
-    word(slot[1]);
-    word(slot[2]);
+pub(crate) fn words(rt: &impl Print, slot: [u64; 3]) -> io::Result<()> {
+    word(rt, slot[0])?;
+    word(rt, slot[1])?;
+    word(rt, slot[2])
 }
 
 // A number that came out, and the one expected.
-pub(crate) fn pair(label: &[u8], got: u64, expected: u64) {
-    print(label);
-    number(got);
-    print(b" = ");
-    number(expected);
+pub(crate) fn pair(rt: &impl Print, label: &[u8], got: u64, expected: u64) -> io::Result<()> {
+    print(rt, label)?;
+    number(rt, got)?;
+    print(rt, b" = ")?;
+    number(rt, expected)
 }
 
-pub(crate) fn total(tally: Tally) {
-    print(b"\n");
-    number(tally.ran);
-    print(b" scenarios, ");
-    number(tally.wrong);
-    print(b" wrong\n");
+pub(crate) fn total(rt: &impl Print, tally: Tally) -> io::Result<()> {
+    print(rt, b"\n")?;
+    number(rt, tally.ran)?;
+    print(rt, b" scenarios, ")?;
+    number(rt, tally.wrong)?;
+    print(rt, b" wrong\n")
 }

@@ -2,6 +2,8 @@
 use crate::bench::Bench;
 use crate::lists::same;
 use crate::output::{number, pair, print, rows, words};
+use std::io;
+use std::io::Print;
 
 // Whether the first n numbers of two rows are the same.
 fn agree(n: usize, got: [u64; 32], expected: [u64; 32]) -> bool {
@@ -9,8 +11,14 @@ fn agree(n: usize, got: [u64; 32], expected: [u64; 32]) -> bool {
 }
 
 // What came out in each step, and what is expected.
-fn row(label: &[u8], n: usize, got: [u64; 32], expected: [u64; 32]) {
-    rows(label, n, &got, &expected);
+fn row(
+    rt: &impl Print,
+    label: &[u8],
+    n: usize,
+    got: [u64; 32],
+    expected: [u64; 32],
+) -> io::Result<()> {
+    rows(rt, label, n, &got, &expected)
 }
 
 // The words of a slot: slot s is words 1+3s, 2+3s and 3+3s.
@@ -50,24 +58,24 @@ impl Bench {
     }
 
     // Its line.
-    fn show_slot(self, place: usize) {
+    fn show_slot(self, rt: &impl Print, place: usize) -> io::Result<()> {
         if place >= 4 {
-            return;
+            return Ok(());
         }
         if place >= self.shows {
-            return;
+            return Ok(());
         }
         let log = self.log;
         let shown = self.shown;
         let slot = self.slots[place];
         let got = slot_of(log, slot);
         let expected = shown_of(shown, place);
-        print(b"\n            slot ");
-        number(slot as u64);
-        print(b":");
-        words(got);
-        print(b" =");
-        words(expected);
+        print(rt, b"\n            slot ")?;
+        number(rt, slot as u64)?;
+        print(rt, b":")?;
+        words(rt, got)?;
+        print(rt, b" =")?;
+        words(rt, expected)
     }
 
     // Each step's answer and stores are as expected.
@@ -106,29 +114,32 @@ impl Bench {
     }
 
     // What is wrong and not shown by numbers.
-    pub(crate) fn warns(self) {
+    pub(crate) fn warns(self, rt: &impl Print) -> io::Result<()> {
         let home = self.home;
         let working = self.working;
         let home_end = self.home_end;
         let working_end = self.working_end;
         if !self.is_known() {
-            print(b" THE TEXT IS NOT UNDERSTOOD;");
+            print(rt, b" THE TEXT IS NOT UNDERSTOOD;")?;
         }
         if !self.kept {
-            print(b" A REFUSED STEP CHANGED A BUFFER;");
+            print(rt, b" A REFUSED STEP CHANGED A BUFFER;")?;
         }
         if !self.kept_state {
-            print(b" A REFUSED STEP CHANGED THE STATE;");
+            print(rt, b" A REFUSED STEP CHANGED THE STATE;")?;
         }
         if !self.left_lost {
-            print(b" A CUT OR A REFUSED RECOVER LEFT MORE THAN THE LOST STATE;");
+            print(
+                rt,
+                b" A CUT OR A REFUSED RECOVER LEFT MORE THAN THE LOST STATE;",
+            )?;
         }
-        home_end.warns(b" ANOTHER WORD OF HOME IS NOT 0;", home);
-        working_end.warns(b" ANOTHER WORD OF WORKING IS NOT 0;", working);
+        home_end.warns(rt, b" ANOTHER WORD OF HOME IS NOT 0;", home)?;
+        working_end.warns(rt, b" ANOTHER WORD OF WORKING IS NOT 0;", working)
     }
 
     // What came out, and what is expected.
-    pub(crate) fn shows_steps(self) {
+    pub(crate) fn shows_steps(self, rt: &impl Print) -> io::Result<()> {
         let n = self.count;
         let answers = self.answers;
         let wanted = self.wanted;
@@ -138,17 +149,17 @@ impl Bench {
         let working = self.working;
         let home_end = self.home_end;
         let working_end = self.working_end;
-        row(b" answers", n, answers, wanted);
-        row(b"; stores", n, stores, allowed);
-        home_end.shows(b"; home", home);
-        working_end.shows(b"; working", working);
-        pair(b"; head ", self.log[0], self.head_end);
+        row(rt, b" answers", n, answers, wanted)?;
+        row(rt, b"; stores", n, stores, allowed)?;
+        home_end.shows(rt, b"; home", home)?;
+        working_end.shows(rt, b"; working", working)?;
+        pair(rt, b"; head ", self.log[0], self.head_end)
     }
 
-    pub(crate) fn shows_slots(self) {
-        self.show_slot(0);
-        self.show_slot(1);
-        self.show_slot(2);
-        self.show_slot(3);
+    pub(crate) fn shows_slots(self, rt: &impl Print) -> io::Result<()> {
+        self.show_slot(rt, 0)?;
+        self.show_slot(rt, 1)?;
+        self.show_slot(rt, 2)?;
+        self.show_slot(rt, 3)
     }
 }

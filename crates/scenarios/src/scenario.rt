@@ -5,6 +5,8 @@ ghost use Rattle.std.specs.Prelude.{◌≤◌};
 use crate::bench::{Bench, fresh};
 use crate::command::none;
 use crate::output::{Tally, print};
+use std::io;
+use std::io::Print;
 
 // Runs a scenario.
 fn run(line: &[u8]) -> Bench {
@@ -28,26 +30,26 @@ fn run(line: &[u8]) -> Bench {
 }
 
 // The blanks after a name of n bytes.
-fn spaces(n: usize) {
+fn spaces(rt: &impl Print, n: usize) -> io::Result<()> {
     match n {
-        2 => print(b"   "),
-        3 => print(b"  "),
-        _ => print(b" "),
+        2 => print(rt, b"   "),
+        3 => print(rt, b"  "),
+        _ => print(rt, b" "),
     }
 }
 
 // The name of a scenario, and blanks up to the next column.
-fn name(line: &[u8]) {
+fn name(rt: &impl Print, line: &[u8]) -> io::Result<()> {
     let start = 0;
     let mut i = 0;
     while i < line.len() {
         if line[i] == b':' {
-            print(&line[start..i]);
-            spaces(i);
-            return;
+            print(rt, &line[start..i])?;
+            return spaces(rt, i);
         }
         i += 1;
     }
+    Ok(())
 }
 
 // Whether a line's text is a step's words after a byte: from a colon or a semicolon up to an equals sign or a bar.
@@ -72,7 +74,7 @@ fn start_of(byte: u8, said: bool, start: usize, i: usize, next: usize) -> usize
 }
 
 // The steps in words: a line up to its bar, without the name and what is expected of each step.
-fn steps(line: &[u8]) {
+fn steps(rt: &impl Print, line: &[u8]) -> io::Result<()> {
     let mut said = false;
     let mut start = 0;
     let mut i = 0;
@@ -81,43 +83,44 @@ fn steps(line: &[u8]) {
         let next = i + 1;
         let goes_on = says(byte, said);
         if said & !goes_on {
-            print(&line[start..i]);
+            print(rt, &line[start..i])?;
         }
         if byte == b'|' {
-            return;
+            return Ok(());
         }
         start = start_of(byte, said, start, i, next);
         said = goes_on;
         i = next;
     }
+    Ok(())
 }
 
 // A scenario's line, or a remark.
-fn show(line: &[u8], tally: Tally) -> Tally {
+fn show(rt: &impl Print, line: &[u8], tally: Tally) -> io::Result<Tally> {
     if line.len() == 0 {
-        print(b"\n");
-        return tally;
+        print(rt, b"\n")?;
+        return Ok(tally);
     }
     if line[0] == b'#' {
-        print(line);
-        print(b"\n");
-        return tally;
+        print(rt, line)?;
+        print(rt, b"\n")?;
+        return Ok(tally);
     }
     let bench = run(line);
     let right = bench.is_right();
-    name(line);
+    name(rt, line)?;
     if right {
-        print(b"ok    ");
+        print(rt, b"ok    ")?;
     } else {
-        print(b"WRONG ");
-        bench.warns();
+        print(rt, b"WRONG ")?;
+        bench.warns(rt)?;
     }
-    bench.shows_steps();
-    print(b"  |");
-    steps(line);
-    bench.shows_slots();
-    print(b"\n");
-    tally.count(right)
+    bench.shows_steps(rt)?;
+    print(rt, b"  |")?;
+    steps(rt, line)?;
+    bench.shows_slots(rt)?;
+    print(rt, b"\n")?;
+    Ok(tally.count(right))
 }
 
 // Where a line begins: after a line feed.
@@ -129,7 +132,7 @@ fn line_start(byte: u8, start: usize, next: usize) -> usize
 }
 
 // Every line.
-pub(crate) fn all(text: &[u8]) -> Tally {
+pub(crate) fn all(rt: &impl Print, text: &[u8]) -> io::Result<Tally> {
     let mut tally = Tally { ran: 0, wrong: 0 };
     let mut start = 0;
     let mut i = 0;
@@ -137,13 +140,13 @@ pub(crate) fn all(text: &[u8]) -> Tally {
         let byte = text[i];
         let next = i + 1;
         if byte == b'\n' {
-            tally = show(&text[start..i], tally);
+            tally = show(rt, &text[start..i], tally)?;
         }
         start = line_start(byte, start, next);
         i = next;
     }
     if start < text.len() {
-        tally = show(&text[start..], tally);
+        tally = show(rt, &text[start..], tally)?;
     }
-    tally
+    Ok(tally)
 }

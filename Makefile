@@ -1,6 +1,7 @@
 # make alone says what there is.
 SHELL = /bin/bash
 .SHELLFLAGS = -o pipefail -ec
+READINGS = crates/readings/out/readings
 WORDS = 18446744073709551612 4 0 18446744073709551606 9223372036854775808
 .PHONY: help run readings example test bench
 
@@ -12,17 +13,17 @@ help:
 	@echo 'make bench     times beside a twin in Rust, libpmemobj, LMDB and SQLite'
 
 run:
-	@rt check scenarios | grep --line-buffered '^rt: '
-	@target/bin/scenarios < crates/scenarios/stdin
+	@cd crates/scenarios && rt run < stdin
 
 readings:
-	@rt check readings | grep --line-buffered '^rt: '
-	@echo 'target/bin/readings < FILE prints the reading of each word in FILE, one decimal number to a line. A few:'
-	@paste <(printf '%s\n' $(WORDS)) <(printf '%s\n' $(WORDS) | target/bin/readings)
+	@cd crates/readings && rt run < /dev/null
+	@echo '$(READINGS) < FILE prints the reading of each word in FILE, one decimal number to a line. A few:'
+	@paste <(printf '%s\n' $(WORDS)) <(printf '%s\n' $(WORDS) | $(READINGS))
 
 example:
-	@rt staticlib exports | grep --line-buffered '^rt: '
-	@cc -std=c99 -Wall -Wextra -Werror -Iinclude -o target/reading examples/reading.c target/staticlib/libexports.a
+	@cd crates/exports && rt lib
+	@mkdir -p target
+	@cc -std=c99 -Wall -Wextra -Werror -Iinclude -o target/reading examples/reading.c crates/exports/out/libexports.a
 	@target/reading
 
 test:

@@ -2,8 +2,8 @@
  * Readings from C: shows a few, then compares a million with what C's own arithmetic prints.
  * `make example` builds and runs it:
  *
- *   rt staticlib exports
- *   cc -std=c99 -Wall -Wextra -Werror -Iinclude examples/reading.c target/staticlib/libexports.a
+ *   (cd crates/exports && rt lib)
+ *   cc -std=c99 -Wall -Wextra -Werror -Iinclude examples/reading.c crates/exports/out/libexports.a
  *   ./a.out
  */
 #include <inttypes.h>

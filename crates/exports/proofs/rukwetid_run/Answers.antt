@@ -1,6 +1,4 @@
 -- `rukwetid_run` meets its contract: what `run` ensures, with the state left out.
-use native.Mathlib.Omega.{arith}
-use borrow.Author.Rules.{rules}
 use mathlib.Core.Path.{ap}
 use Rattle.state.proofs.HandedBack.{lost-view}
 use Rattle.exports.specs.Exported.{export_of}

@@ -13,15 +13,17 @@ help:
 	@echo 'make bench     times beside a twin in Rust, libpmemobj, LMDB and SQLite'
 
 run:
-	@cd crates/scenarios && rt run < stdin
+	@cd crates/scenarios && rt check | grep --line-buffered '^rt: '
+	@cd crates/scenarios && rt run 2> /dev/null < stdin
 
 readings:
-	@cd crates/readings && rt run < /dev/null
+	@cd crates/readings && rt check | grep --line-buffered '^rt: '
+	@cd crates/readings && rt run 2> /dev/null < /dev/null
 	@echo '$(READINGS) < FILE prints the reading of each word in FILE, one decimal number to a line. A few:'
 	@paste <(printf '%s\n' $(WORDS)) <(printf '%s\n' $(WORDS) | $(READINGS))
 
 example:
-	@cd crates/exports && rt lib
+	@cd crates/exports && rt lib | grep --line-buffered '^rt: '
 	@mkdir -p target
 	@cc -std=c99 -Wall -Wextra -Werror -Iinclude -o target/reading examples/reading.c crates/exports/out/libexports.a
 	@target/reading

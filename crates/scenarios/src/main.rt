@@ -39,7 +39,7 @@ fn read_full(input: &mut impl Read, buffer: &mut [u8]) -> io::Result<usize>
 
 fn main(rt: HostRuntime) -> io::Result<()> {
     let mut text = [0; ROOM];
-    let n = read_full(&mut rt.reader(), &mut text)?;
+    let n = read_full(&mut rt.stdin(), &mut text)?;
     if n < ROOM {
         output::total(&rt, scenario::all(&rt, &text[..n])?)
     } else {

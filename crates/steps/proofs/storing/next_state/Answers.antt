@@ -116,7 +116,7 @@ few-first here =
     let count = here.requires.count_value in
     (omega arith, omega arith)
 
--- room is (goal.at.After-mark_logged c).After-mark_logged for the entry of a Clean word
+-- room is made for the entry of a Clean word
 module _ (c : After-mark_logged) where
   abbrev count : ℕ
   count = c.args.count

@@ -9,7 +9,7 @@ help:
 	@echo 'make run       proves what the program needs, a line for each crate, and shows its table of scenarios'
 	@echo 'make readings  proves and builds the program that prints words as readings, and shows a few'
 	@echo 'make example   builds the C example over include/rukwetid.h, and runs it'
-	@echo 'make test      the gate: proves everything from nothing; its last line is "N passed, 0 failed"'
+	@echo 'make test      the gate: every proof, must-fail edit and program; its last line is "N passed, 0 failed"'
 	@echo 'make bench     times beside a twin in Rust, libpmemobj, LMDB and SQLite'
 
 run:

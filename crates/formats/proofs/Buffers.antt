@@ -1,46 +1,47 @@
 -- A text in a lent buffer, and lists with elements replaced.
-use Prim.Native.Nat.{ℕ, suc, ◌+◌, ◌≤◌, ◌<◌}
+use Prim.Native.Nat.{ℕ, ◌+◌, ◌≤◌, ◌<◌}
 use mathlib.Core.Path.{◌≡◌, ◌∙◌, ap}
-use mathlib.Core.Bool.{Bool, true, false, cond}
 use mathlib.Core.List.{List, [], ◌∷◌, ◌++◌}
-use native.Mathlib.Numerals.{add-one}
+use mathlib.Core.Bool.{Bool, true, false, cond}
 use native.Mathlib.Omega.{arith}
 use borrow.Author.Tests.{le-leb, lt-leb}
 use lib.Dec.{leb}
-use lib.ListN.{length, get_or, take, drop, set, length-append, length-drop}
-use lib.Seq.{append_snoc, set_at, take_at, take-suc, drop-cons, length-take-le}
-use Rattle.formats.specs.declared.Written.{Written}
+use lib.ListN.{length, take, drop, set, length-append}
+use lib.Seq.{append_snoc, set_at, take_at}
+use Rattle.std.specs.Prelude.{Result, Ok, Err}
+use Rattle.std.specs.Result.{result_unwrap_or}
+use Rattle.formats.specs.declared.answers.TooShort.{TooShort}
 use Rattle.formats.specs.Written.{Filled, filled, filled_with}
 
 module _ (text buffer : List ℕ) where
-  pub filled-short : length buffer < length text → filled (record { answer = 1; length = 0 }) buffer ≡ filled_with text buffer
+  pub filled-short : length buffer < length text → filled (Err (record {})) buffer ≡ filled_with text buffer
   unfolding filled_with
   filled-short h = rw (lt-leb (length text) (length buffer) h)
 
   pub filled-whole : (n : ℕ) (after : List ℕ) → length text ≡ n → n ≤ length buffer → after ≡ text ++ drop n buffer
-      → filled (record { answer = 0; length = n }) after ≡ filled_with text buffer
+      → filled (Ok n) after ≡ filled_with text buffer
   unfolding filled_with
   filled-whole n after e h f = rw (e, le-leb n (length buffer) h, f)
 
   -- what is known of a buffer that had room
-  pub filled-known : (r : Written) (after : List ℕ) → length text ≤ length buffer → filled r after ≡ filled_with text buffer
-      → (r ≡ record { answer = 0; length = length text }) × (after ≡ text ++ drop (length text) buffer)
+  pub filled-known : (r : Result ℕ TooShort) (after : List ℕ) → length text ≤ length buffer
+      → filled r after ≡ filled_with text buffer → (r ≡ Ok (length text)) × (after ≡ text ++ drop (length text) buffer)
   unfolding filled_with
   filled-known r after h e =
       let f = rw (le-leb (length text) (length buffer) h) at e in
       (ap (λ (x : Filled). x.written) f, ap (λ (x : Filled). x.buffer) f)
 
-  -- the length that is answered is within the buffer
-  pub filled_within : (r : Written) (after : List ℕ) → filled r after ≡ filled_with text buffer → r.length ≤ length after
+  -- the length that is handed back, or 0 where the buffer is too short, is within the buffer
+  pub filled_within : (r : Result ℕ TooShort) (after : List ℕ) → filled r after ≡ filled_with text buffer
+      → result_unwrap_or r 0 ≤ length after
   unfolding filled_with
   filled_within r after e = pick (leb (length text) (length buffer)) e
     where
       pick : (b : Bool) → filled r after
-          ≡ cond b (filled (record { answer = 0; length = length text }) (text ++ drop (length text) buffer))
-          (filled (record { answer = 1; length = 0 }) buffer)
-          → r.length ≤ length after
-      pick true f = rw (ap (λ (x : Filled). x.written.length) f, ap (λ (x : Filled). x.buffer) f, length-append) (omega arith)
-      pick false f = rw (ap (λ (x : Filled). x.written.length) f) (omega arith)
+          ≡ cond b (filled (Ok (length text)) (text ++ drop (length text) buffer)) (filled (Err (record {})) buffer)
+          → result_unwrap_or r 0 ≤ length after
+      pick true f = rw (ap (λ (x : Filled). x.written) f, ap (λ (x : Filled). x.buffer) f, length-append) (omega arith)
+      pick false f = rw (ap (λ (x : Filled). x.written) f) (omega arith)
 
 -- two neighbouring elements replaced behind a list
 pub two-set : (p rest : List ℕ) (k a b : ℕ) → length p ≡ k → 2 ≤ length rest
@@ -50,17 +51,6 @@ two-set p (x ∷ []) k a b e h = absurd (omega arith)
 two-set p (x ∷ (y ∷ rest)) k a b e h =
     rw (set_at p x (y ∷ rest) a k e, ← append_snoc p a (y ∷ rest))
     (set_at (p ++ (a ∷ [])) y rest b (k + 1) (length-append p (a ∷ []) ∙ ap (λ (n : ℕ). n + 1) e) ∙ append_snoc p a (b ∷ rest))
-
--- a text copied up to a place, and one byte more
-pub put_next : (text buffer : List ℕ) (i : ℕ) → i < length text → i < length buffer
-    → set (take i text ++ drop i buffer) i (get_or text i 0) ≡ take (i + 1) text ++ drop (i + 1) buffer
-put_next text buffer i h k =
-    rw (add-one, drop-cons buffer i 0 k, take-suc text i 0 h, append_snoc)
-    (set_at (take i text) (get_or buffer i 0) (drop (suc i) buffer) (get_or text i 0) i (length-take-le i text (omega arith)))
-
-pub length-put : (text buffer : List ℕ) (i : ℕ) → i ≤ length text → i ≤ length buffer
-    → length (take i text ++ drop i buffer) ≡ length buffer
-length-put text buffer i h k = simp (length-append, length-drop, length-take-le i text h) (omega arith)
 
 -- an element put behind a list
 pub one_set : (p rest : List ℕ) (k a : ℕ) → length p ≡ k → 1 ≤ length rest → take (k + 1) (set (p ++ rest) k a) ≡ p ++ (a ∷ [])

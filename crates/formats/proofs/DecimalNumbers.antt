@@ -5,8 +5,8 @@ use mathlib.Core.Bool.{true}
 use mathlib.Core.List.{[], ◌∷◌}
 use native.Mathlib.Omega.{arith}
 use borrow.Author.Tests.{le-leb}
-use Rattle.formats.specs.declared.Number.{Number}
-use Rattle.formats.specs.declared.Number.TheVariants.{Value}
+use Rattle.formats.specs.declared.numerals.Number.{Number}
+use Rattle.formats.specs.declared.numerals.Number.TheVariants.{Value}
 use Rattle.formats.specs.Decimal.{digit, is_digit, decimal, with_digit}
 use Rattle.formats.specs.Number.{fitted, number_in, with_byte, only_digits}
 use Rattle.formats.proofs.Decimals.{by-tens, decimal-one, decimal-more}

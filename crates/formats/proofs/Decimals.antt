@@ -1,14 +1,15 @@
 -- Laws of decimal numbers as text: one digit more at the end, and how many there are.
 use Prim.Native.Nat.{ℕ, zero, suc, ◌+◌, ◌-◌, ◌*◌, ◌/◌, ◌%◌, ◌^◌, ◌≤◌, ◌<◌}
 use mathlib.Core.Path.{◌≡◌, refl, sym, ◌∙◌, ap}
-use mathlib.Core.List.{List, [], ◌∷◌, ◌++◌, append_assoc, append-nil}
+use mathlib.Core.List.{List, [], ◌∷◌, ◌++◌, append_assoc}
 use native.Mathlib.Decide.{dec_lt}
-use native.Mathlib.Nat.{pow-suc}
+use native.Mathlib.Nat.{pow-suc, one-le-pow}
 use native.Mathlib.Numerals.{add-one}
 use native.Mathlib.Omega.{arith}
 use borrow.Author.Tests.{lt-ltb, le-ltb}
 use lib.ListN.{length, drop, set, length-append}
-use lib.Seq.{lt-length-set, drop-cons, drop-length, drop-set-lt, get_or-set_same}
+use lib.Seq.{lt-length-set, drop-cons, drop-set-lt, get_or-set_same}
+use Rattle.std.specs.Prelude.{Option, None, Some, IfNone, IfSome, unwrap_or}
 use Rattle.formats.specs.Decimal.{digit, digits_by, decimal, last_digits, with_digit, value_from}
 
 -- from the numbers below ten to those with one digit more
@@ -77,6 +78,24 @@ decimal-long n = elim (dec_lt n 10) [
   | no q ↦ rw (length_more n (omega arith)) (omega arith)
 ]
 
+-- and from a power of ten on it has one more than that power has zeros
+decimal-large : (k n : ℕ) → 10 ^ k ≤ n → suc k ≤ length (decimal n)
+decimal-large zero n h = decimal-long n
+decimal-large (suc k) n h =
+    let e : 10 ^ suc k ≡ 10 ^ k * 10 = pow-suc 10 k in
+    let p = one-le-pow k 10 (omega arith) in
+    let s = decimal-large k (n / 10) (omega arith) in
+    rw (length_more n (omega arith)) (omega arith)
+
+-- so it has one digit more than its logarithm, and 0, which has none, has one
+pub logarithm_length : (n : ℕ) (logarithm : Option ℕ) → IfNone logarithm (n ≡ 0) → IfSome logarithm (λ k. 10 ^ k ≤ n)
+    → IfSome logarithm (λ k. n < 10 * 10 ^ k) → unwrap_or logarithm 0 + 1 ≡ length (decimal n)
+logarithm_length n None e low high = sym (length-one n (omega arith))
+logarithm_length n (Some k) e low high =
+    let s = decimal-short k n (omega (arith, pow-suc 10 k)) in
+    let l = decimal-large k n low in
+    omega arith
+
 -- digits stored from the last to the first: those of the rest, then those that stand there already
 drop-set : (text : List ℕ) (k d : ℕ) → k < length text → drop k (set text k d) ≡ d ∷ drop (suc k) text
 drop-set text k d h =
@@ -91,9 +110,6 @@ pub digit-stored : (at rest : ℕ) (text : List ℕ) → 0 < at → at ≤ lengt
     → last_digits at rest ++ drop at text ≡ last_digits (at - 1) (rest / 10) ++ drop (at - 1) (set text (at - 1) (digit (rest % 10)))
 digit-stored zero rest text h k = absurd (omega arith)
 digit-stored (suc at) rest text h k = let e : suc at - 1 ≡ at = omega arith in rw e (stored-by at rest text (omega arith))
-
-pub none-stored : (number : ℕ) (text : List ℕ) → last_digits (length text) number ≡ last_digits (length text) number ++ drop (length text) text
-none-stored number text = rw (drop-length text, append-nil)
 
 pub all-stored : (at rest : ℕ) (text : List ℕ) → at ≡ 0 → last_digits at rest ++ drop at text ≡ text
 unfolding last_digits

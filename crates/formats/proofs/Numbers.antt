@@ -6,12 +6,11 @@ use mathlib.Core.List.{List, [], ◌∷◌, ◌++◌, append-nil}
 use native.Mathlib.Decide.{dec_lt}
 use native.Mathlib.Numerals.{add-one}
 use native.Mathlib.Omega.{arith}
-use borrow.Author.Tests.{lt-ltb, le-ltb, leb-true}
-use lib.Dec.{leb}
+use borrow.Author.Tests.{lt-ltb, le-ltb}
 use lib.ListN.{length, get_or, take}
 use lib.Seq.{take-suc}
-use Rattle.formats.specs.declared.Number.{Number}
-use Rattle.formats.specs.declared.Number.TheVariants.{Value, Invalid}
+use Rattle.formats.specs.declared.numerals.Number.{Number}
+use Rattle.formats.specs.declared.numerals.Number.TheVariants.{Value, Invalid}
 use Rattle.formats.specs.Decimal.{is_digit, with_digit, value_from, value_of}
 use Rattle.formats.specs.Number.{all_digits, fitted, number_in, with_byte, only_digits}
 use Rattle.formats.proofs.Decimals.{value-append}
@@ -24,20 +23,7 @@ and-true : (b : Bool) → (b && true) ≡ b
 and-true true = refl
 and-true false = refl
 
-both : (a b : Bool) → (a && b) ≡ true → (a ≡ true) × (b ≡ true)
-both true b e = (refl, e)
-both false b e = (e, absurd (let z : ◌≡◌ {A = ℕ} 0 1 = cc in omega arith))
-
--- the bounds of a digit
-pub digit-bounds : (byte : ℕ) → is_digit byte ≡ true → (48 ≤ byte) × (byte ≤ 57)
-digit-bounds byte e =
-    let h = both (leb 48 byte) (leb byte 57) e in
-    (leb-true 48 byte h.0, leb-true byte 57 h.1)
-
--- what is no digit is no number
-pub fitted-not : (b : Bool) (v : ℕ) → b ≡ false → Invalid ≡ fitted b v
-fitted-not b v e = rw e
-
+-- digits that give a value of at most 64 bits, and what gives a larger one
 pub fitted-value : (b : Bool) (v : ℕ) → b ≡ true → v < 2 ^ 64 → Value v ≡ fitted b v
 fitted-value b v e h = rw (e, lt-ltb v (2 ^ 64) h)
 
@@ -99,9 +85,9 @@ digits-next bytes byte = ap number_in (only-append bytes (byte ∷ [])) ∙ pick
 pub taken_next : (text : List ℕ) (i : ℕ) → i < length text → take (i + 1) text ≡ take i text ++ (get_or text i 0 ∷ [])
 taken_next text i h = rw add-one (take-suc text i 0 h)
 
-pub digits-passed : (text : List ℕ) (i : ℕ) (n : Number) → i < length text → n ≡ number_in (only_digits (take i text))
+pub digits_passed : (text : List ℕ) (i : ℕ) (n : Number) → i < length text → n ≡ number_in (only_digits (take i text))
     → cond (is_digit (get_or text i 0)) (with_byte n (get_or text i 0)) n ≡ number_in (only_digits (take (i + 1) text))
-digits-passed text i n h e = rw (taken_next text i h, e) (sym (digits-next (take i text) (get_or text i 0)))
+digits_passed text i n h e = rw (taken_next text i h, e) (sym (digits-next (take i text) (get_or text i 0)))
 
 -- a number of 64 bits, and what was read as one
 pub value-fits : (bytes : List ℕ) (v : ℕ) → number_in bytes ≡ Value v → v < 2 ^ 64

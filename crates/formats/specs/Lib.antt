@@ -1,4 +1,5 @@
 -- What the contracts cite.
+pub mod Answer
 pub mod Decimal
 pub mod Lines
 pub mod Number

@@ -1,7 +1,7 @@
 -- A number that is read from a text.
-use Rattle.std.specs.Prelude.{ℕ, ◌^◌, Bool, true, cond, ◌&&◌, List, [], ◌∷◌, ltb}
-use Rattle.formats.specs.declared.Number.{Number}
-use Rattle.formats.specs.declared.Number.TheVariants.{Blank, Value, Invalid}
+use Rattle.std.specs.Prelude.{ℕ, ◌^◌, Bool, true, cond, ◌&&◌, List, [], ◌∷◌, ltb, Option, Some, None}
+use Rattle.formats.specs.declared.numerals.Number.{Number}
+use Rattle.formats.specs.declared.numerals.Number.TheVariants.{Blank, Value, Invalid}
 use Rattle.formats.specs.Decimal.{is_digit, with_digit, value_of}
 
 unfoldable pub all_digits : List ℕ → Bool
@@ -16,6 +16,11 @@ fitted valid v = cond (valid && ltb v (2 ^ 64)) (Value v) Invalid
 abbrev pub number_in : List ℕ → Number
 number_in [] = Blank
 number_in (byte ∷ bytes) = fitted (all_digits (byte ∷ bytes)) (value_of (byte ∷ bytes))
+
+-- a value of at most 64 bits, or none
+abbrev pub number_by : Option ℕ → Number
+number_by (Some v) = Value v
+number_by None = Invalid
 
 -- a number with one byte more behind it
 abbrev pub with_byte : Number → ℕ → Number

@@ -3,17 +3,12 @@ ghost use Rattle.std.specs.Prelude.{◌≡◌, ◌%◌, ◌≤◌, length};
 ghost use Rattle.formats.specs.Decimal.{digit, decimal, last_digits};
 
 // How many digits the number has.
+#[tactic(auto, using(crate::proofs::Decimals::logarithm_length))]
 pub fn decimal_length(number: u64) -> usize
     ensures value { result ≡ length (decimal number) }
     ensures upper_bound { result ≤ 20 }
 {
-    let mut rest = number;
-    let mut count = 1;
-    while 9 < rest {
-        rest = rest / 10;
-        count += 1;
-    }
-    count
+    number.checked_ilog10().unwrap_or(0) as usize + 1
 }
 
 // The byte of the number's last digit.
@@ -28,10 +23,8 @@ pub fn fill_decimal(number: u64, text: &mut [u8])
     ensures { text.new ≡ last_digits (length text.old) number }
 {
     let mut rest = number;
-    let mut at = text.len();
-    while 0 < at {
-        at -= 1;
+    for at in (0..text.len()).rev() {
         text[at] = last_digit(rest);
-        rest = rest / 10;
+        rest /= 10;
     }
 }

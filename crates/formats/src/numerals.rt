@@ -1,60 +1,50 @@
 // Numbers read from a text, byte by byte: zeros in front without end, and a value above 64 bits found without overflow.
-ghost use Rattle.std.specs.Prelude.{◌≡◌, cond};
+ghost use Rattle.std.specs.Prelude.{◌≡◌};
 ghost use Rattle.formats.specs.Decimal.{is_digit, with_digit};
-ghost use Rattle.formats.specs.Number.{fitted, number_in, with_byte, only_digits};
+ghost use Rattle.formats.specs.Number.{fitted, number_by, number_in, with_byte, only_digits};
 
-use crate::Number;
-
-fn is_digit(byte: u8) -> bool
-    ensures { result ≡ is_digit byte }
-{
-    (b'0' <= byte) & (byte <= b'9')
+// What has been read of a number: nothing yet, digits with this value, or what is no number of 64 bits.
+#[derive(Clone, Copy, Debug, PartialEq, Eq, Hash)]
+pub enum Number {
+    Blank,
+    Value(u64),
+    Invalid,
 }
 
 // A value with a byte more behind it, if that is a digit and the new value fits.
-fn value_with(value: u64, byte: u8) -> Number
-    ensures { result ≡ fitted (is_digit byte) (with_digit value byte) }
+fn value_with(value: u64, byte: u8) -> Option<u64>
+    ensures { number_by result ≡ fitted (is_digit byte) (with_digit value byte) }
 {
-    if !is_digit(byte) {
-        return Number::Invalid;
+    if !byte.is_ascii_digit() {
+        return None;
     }
-    let last = (byte - b'0') as u64;
-    if value <= (u64::MAX - last) / 10 {
-        return Number::Value(10 * value + last);
-    }
-    Number::Invalid
+    value.checked_mul(10)?.checked_add(u64::from(byte - b'0'))
 }
 
-// A number with a byte more behind it.
-pub fn with_byte(number: Number, byte: u8) -> Number
-    ensures { result ≡ with_byte number byte }
-{
-    match number {
-        Number::Blank => value_with(0, byte),
-        Number::Value(value) => value_with(value, byte),
-        Number::Invalid => Number::Invalid,
+impl Number {
+    // The number with a byte more behind it.
+    pub fn with_byte(self, byte: u8) -> Number
+        ensures { result ≡ with_byte self byte }
+    {
+        let value = match self {
+            Number::Blank => 0,
+            Number::Value(value) => value,
+            Number::Invalid => return Number::Invalid,
+        };
+        value_with(value, byte).map_or(Number::Invalid, Number::Value)
     }
-}
-
-// A number with a byte more behind it, if that is a digit; other bytes are passed over.
-fn with_byte_if_digit(number: Number, byte: u8) -> Number
-    ensures { result ≡ cond (is_digit byte) (with_byte number byte) number }
-{
-    if is_digit(byte) {
-        return with_byte(number, byte);
-    }
-    number
 }
 
 // The number that the digits of a text give, its other bytes passed over.
+#[tactic(auto, unfolding(crate::specs::Number::only_digits))]
 pub fn number_of_digits(text: &[u8]) -> Number
     ensures { result ≡ number_in (only_digits text.now) }
 {
     let mut number = Number::Blank;
-    let mut i = 0;
-    while i < text.len() {
-        number = with_byte_if_digit(number, text[i]);
-        i += 1;
+    for byte in text {
+        if byte.is_ascii_digit() {
+            number = number.with_byte(*byte);
+        }
     }
     number
 }

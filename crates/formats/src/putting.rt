@@ -2,26 +2,17 @@
 ghost use Rattle.std.specs.Prelude.{◌≡◌};
 ghost use Rattle.formats.specs.Written.{filled, filled_with};
 
-use crate::{DONE, SIZE, Written};
+use crate::TooShort;
 
-// Puts a text at the start of the buffer, if it has room.
-pub fn put(text: &[u8], buffer: &mut [u8]) -> Written
+// Puts a text at the start of the buffer, if it has room, and hands back the text's length.
+#[tactic(auto, unfolding(crate::specs::Written::filled_with))]
+pub fn put(text: &[u8], buffer: &mut [u8]) -> Result<usize, TooShort>
     ensures { filled result buffer.new
         ≡ filled_with text.now buffer.old }
 {
     if buffer.len() < text.len() {
-        return Written {
-            answer: SIZE,
-            length: 0,
-        };
+        return Err(TooShort);
     }
-    let mut i = 0;
-    while i < text.len() {
-        buffer[i] = text[i];
-        i += 1;
-    }
-    Written {
-        answer: DONE,
-        length: i,
-    }
+    buffer[..text.len()].copy_from_slice(text);
+    Ok(text.len())
 }

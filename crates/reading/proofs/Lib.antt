@@ -1,6 +1,4 @@
 -- Laws that the proofs of the functions share, and the theorems.
-pub mod Counts
-pub mod SameBytes
 pub mod Streams
 pub mod Texts
 pub mod WayBack

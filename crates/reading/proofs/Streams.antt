@@ -3,14 +3,17 @@ use Rattle.std.proofs.Common.{◌≡◌, ℕ, suc, ◌+◌, ◌-◌, ◌*◌, �
 use borrow.Author.Tests.{lt-leb}
 use borrow.Rule.Slice.PartMut.{mid_of, put_mid}
 use lib.Seq.{take-append_seam}
-use Rattle.formats.specs.declared.Number.{Number}
-use Rattle.formats.specs.declared.Number.TheVariants.{Blank, Value, Invalid}
+use Rattle.formats.specs.declared.numerals.Number.{Number}
+use Rattle.formats.specs.declared.numerals.Number.TheVariants.{Blank, Value, Invalid}
 use Rattle.formats.specs.Decimal.{value_of}
 use Rattle.formats.specs.Lines.{line_feed, last_lines, lines_from}
 use Rattle.formats.specs.Number.{all_digits, fitted, number_in, with_byte}
-use Rattle.formats.specs.Written.{Filled, filled_with}
+use Rattle.formats.specs.Written.{filled, filled_with}
+use Rattle.formats.proofs.Buffers.{filled-known}
 use Rattle.formats.proofs.Numbers.{number-next, taken_next}
-use Rattle.reading.specs.declared.Fed.{Fed}
+use Rattle.std.specs.Prelude.{Result, Ok, Err, IsOkAnd}
+use Rattle.formats.specs.declared.answers.TooShort.{TooShort}
+use Rattle.reading.specs.declared.stream.Fed.{Fed}
 use Rattle.reading.specs.Stream.{printed_line, all_printed, Progress, output_before, read_on, printed_last, read_all, fed_with, Filling, fed_into, filling}
 use Rattle.reading.specs.Claim.{joined, StreamClaim}
 use Rattle.reading.proofs.Texts.{text-longest}
@@ -107,10 +110,10 @@ pieces-read (piece ∷ pieces) n =
 -- what a buffer with room has at its start
 fed-printed : (n : Number) (piece buffer : List ℕ) → 22 * length piece ≤ length buffer
     → let r = fed_with n piece buffer in
-    (r.fed.answer ≡ 0) × (r.fed.number ≡ (read_on n piece).number) × (take r.fed.length r.buffer ≡ (read_on n piece).output)
+    IsOkAnd r.fed (λ fed. (fed.number ≡ (read_on n piece).number) × (take fed.length r.buffer ≡ (read_on n piece).output))
 unfolding fed_with
 fed-printed n piece buffer h =
-    rw (le-leb (22 * length piece) (length buffer) h) (refl, refl, take-append_seam (read_on n piece).output _)
+    rw (le-leb (22 * length piece) (length buffer) h) (refl, take-append_seam (read_on n piece).output _)
 
 last-longest : (n : Number) → length (printed_last n) ≤ 22
 last-longest Blank = omega arith
@@ -118,11 +121,11 @@ last-longest Invalid = line-longest Invalid
 last-longest (Value w) = line-longest (Value w)
 
 last-finished : (n : Number) (buffer : List ℕ) → 22 ≤ length buffer
-    → let r = filled_with (printed_last n) buffer in (r.written.answer ≡ 0) × (take r.written.length r.buffer ≡ printed_last n)
+    → let r = filled_with (printed_last n) buffer in IsOkAnd r.written (λ size. take size r.buffer ≡ printed_last n)
 unfolding filled_with
 last-finished n buffer h =
     rw (le-leb (length (printed_last n)) (length buffer) (omega (arith, last-longest n)))
-    (refl, take-append_seam (printed_last n) _)
+    (take-append_seam (printed_last n) _)
 
 pub stream-claim : StreamClaim
 stream-claim = record {
@@ -132,14 +135,24 @@ stream-claim = record {
       ap (λ (p : Progress). p.output ++ printed_last p.number) (pieces-read pieces Blank) ∙ lines-printed (joined pieces) [];
 }
 
--- a line put into a buffer, by a number that is known
-pub filled-by : (line : Number → List ℕ) (m n : Number) (buffer : List ℕ) (f : Filled) → m ≡ n → f ≡ filled_with (line n) buffer
-    → f ≡ filled_with (line m) buffer
-filled-by line m n buffer f e g = g ∙ sym (ap (λ (x : Number). filled_with (line x) buffer) e)
+-- what was handed back is no refusal, or one value
+pub no_refusal : {A : Type 0} {T : Type 0} {r : Result T TooShort} {e : TooShort} (x : T) → r ≡ Err e → r ≡ Ok x → A
+no_refusal {T} {e} x f g =
+    let h : ◌≡◌ {A = Result T TooShort} (Err e) (Ok x) = sym f ∙ g in
+    absurd (let z : ◌≡◌ {A = ℕ} 0 1 = cc in omega arith)
+
+pub same-Ok : {T : Type 0} {r : Result T TooShort} {x : T} (y : T) → r ≡ Ok x → r ≡ Ok y → x ≡ y
+same-Ok {T} {x} y f g = let h : ◌≡◌ {A = Result T TooShort} (Ok x) (Ok y) = sym f ∙ g in cc
+
+-- a buffer with room for a line isn't refused at the end
+pub last-room : (n : Number) (buffer after : List ℕ) (r : Result ℕ TooShort)
+    → filled r after ≡ filled_with (printed_last n) buffer → 22 ≤ length buffer → r ≡ Ok (length (printed_last n))
+last-room n buffer after r e h =
+    let short = last-longest n in (filled-known (printed_last n) buffer r after (omega arith) e).0
 
 -- What is handed back for a piece, by the room that the buffer has.
 module _ (n : Number) (piece buffer : List ℕ) where
-  pub fed-short : length buffer < 22 * length piece → filling (record { answer = 1; number = n; length = 0 }) buffer ≡ fed_with n piece buffer
+  pub fed-short : length buffer < 22 * length piece → filling (Err (record {})) buffer ≡ fed_with n piece buffer
   unfolding fed_with
   fed-short h = rw (lt-leb (22 * length piece) (length buffer) h)
 
@@ -147,81 +160,101 @@ module _ (n : Number) (piece buffer : List ℕ) where
   unfolding fed_with
   fed-whole p h e = rw (le-leb (22 * length piece) (length buffer) h, e)
 
-  -- the length that is answered is within the buffer
-  pub fed-within : (r : Fed) (after : List ℕ) → filling r after ≡ fed_with n piece buffer → r.length ≤ length after
-  unfolding fed_with
-  fed-within r after e = pick (leb (22 * length piece) (length buffer)) e
-    where
-      pick : (b : Bool) → filling r after ≡ cond b (fed_into (read_on n piece) buffer) (filling (record { answer = 1; number = n; length = 0 }) buffer)
-          → r.length ≤ length after
-      pick true f = rw (ap (λ (x : Filling). x.fed.length) f, ap (λ (x : Filling). x.buffer) f, length-append) (omega arith)
-      pick false f = rw (ap (λ (x : Filling). x.fed.length) f) (omega arith)
+  -- a buffer with room isn't refused, and the length that is handed back is within it
+  pub fed-room : (r : Result Fed TooShort) (after : List ℕ) → filling r after ≡ fed_with n piece buffer
+      → 22 * length piece ≤ length buffer → r ≡ Ok (record { number = (read_on n piece).number; length = length (read_on n piece).output })
+  fed-room r after e h = ap (λ (x : Filling). x.fed) (e ∙ sym (fed-whole (read_on n piece) h refl))
 
--- A piece read up to byte `i`: `read` is the number on the last line, and what was printed stands before `end`.
+  pub fed-within : (r : Result Fed TooShort) (after : List ℕ) (fed : Fed) → filling r after ≡ fed_with n piece buffer
+      → r ≡ Ok fed → fed.length ≤ length after
+  unfolding fed_with
+  fed-within r after fed e g = pick (leb (22 * length piece) (length buffer)) (rw g at e)
+    where
+      pick : (b : Bool)
+          → filling (Ok fed) after ≡ cond b (fed_into (read_on n piece) buffer) (filling (Err (record {})) buffer)
+          → fed.length ≤ length after
+      pick true f =
+          let is = same-Ok _ refl (ap (λ (x : Filling). x.fed) f) in
+          rw (ap (λ (x : Filling). x.buffer) f, is, length-append) (omega arith)
+      pick false f = no_refusal fed (ap (λ (x : Filling). x.fed) f) refl
+
+-- a line feed, of which the line has been put into the buffer
+pub line-fed : (n : Number) (byte : ℕ) (buffer : List ℕ) → byte ≡ line_feed → 22 ≤ length buffer
+    → (r : Result ℕ TooShort) (after : List ℕ) {size : ℕ} → filled r after ≡ filled_with (printed_line n) buffer
+    → r ≡ Ok size → filling (Ok (record { number = Blank; length = size })) after ≡ fed_with n (byte ∷ []) buffer
+line-fed n byte buffer e h r after {size} f g =
+    let line = line-longest n in
+    let known = filled-known (printed_line n) buffer r after (omega arith) f in
+    rw (same-Ok (length (printed_line n)) g known.0, known.1)
+    (fed-whole n (byte ∷ []) buffer _ (omega arith) (read-line-feed n byte e))
+
+-- A piece read up to byte `i`: `fed` is what has been read and printed so far.
 module _ (n : Number) (piece buffer₀ : List ℕ) where
   abbrev so_far : ℕ → Progress
   so_far i = read_on n (take i piece)
 
-  pub record FedTo (buffer : List ℕ) (read : Number) (end i : ℕ) : Type 0 where
+  pub record FedTo (buffer : List ℕ) (fed : Fed) (i : ℕ) : Type 0 where
     pub within : i ≤ length piece
-    pub number : read ≡ (so_far i).number
-    pub printed : end ≡ length (so_far i).output
-    pub buffered : buffer ≡ (so_far i).output ++ drop end buffer₀
+    pub number : fed.number ≡ (so_far i).number
+    pub printed : fed.length ≡ length (so_far i).output
+    pub buffered : buffer ≡ (so_far i).output ++ drop fed.length buffer₀
 
-  pub none_read : FedTo buffer₀ n 0 0
+  pub none_read : FedTo buffer₀ (record { number = n; length = 0 }) 0
   unfolding read_on
   none_read = record { within = omega arith; number = refl; printed = refl; buffered = refl }
 
   module _ (room : 22 * length piece ≤ length buffer₀) where
-    pub all_read : (buffer : List ℕ) (read : Number) (end i : ℕ) → FedTo buffer read end i → length piece ≤ i
-        → filling (record { answer = 0; number = read; length = end }) buffer ≡ fed_with n piece buffer₀
-    all_read buffer read end i f h =
+    pub all_read : (buffer : List ℕ) (fed : Fed) (i : ℕ) → FedTo buffer fed i → length piece ≤ i
+        → filling (Ok fed) buffer ≡ fed_with n piece buffer₀
+    all_read buffer fed i f h =
         let e : so_far i ≡ read_on n piece = ap (read_on n) (take_all i piece h) in
         rw (f.buffered, f.number, f.printed) (fed-whole n piece buffer₀ (so_far i) room (sym e))
 
-    module _ (buffer : List ℕ) (read : Number) (end i : ℕ) (f : FedTo buffer read end i) where
-      pub end-within : end ≤ 22 * i
-      end-within =
+    module _ (buffer : List ℕ) (fed : Fed) (i : ℕ) (f : FedTo buffer fed i) where
+      pub length-within : fed.length ≤ 22 * i
+      length-within =
           let short = output-longest n (take i piece) in
           let size = length-take-le i piece f.within in
           let e = f.printed in
           omega (arith, rw size at short)
 
-      pub kept : length buffer ≡ length buffer₀
+      kept : length buffer ≡ length buffer₀
       kept =
-          let w = end-within in let e = f.printed in let l = f.within in
+          let w = length-within in let e = f.printed in let l = f.within in
           ap length f.buffered ∙ simp (length-append, length-drop) (omega arith)
 
-      module _ (h : i < length piece) (r : Fed) (part : List ℕ) where
+      module _ (h : i < length piece) (r : Result Fed TooShort) (part : List ℕ) where
         abbrev byte : ℕ
         byte = get_or piece i 0
 
         abbrev next : Progress
-        next = read_on read (byte ∷ [])
+        next = read_on fed.number (byte ∷ [])
 
-        before : take end buffer ≡ (so_far i).output
-        before = rw f.buffered (take_at (so_far i).output (drop end buffer₀) end (sym f.printed))
+        before : take fed.length buffer ≡ (so_far i).output
+        before = rw f.buffered (take_at (so_far i).output (drop fed.length buffer₀) fed.length (sym f.printed))
 
-        behind : drop end buffer ≡ drop end buffer₀
-        behind = rw f.buffered (drop_at (so_far i).output (drop end buffer₀) end (sym f.printed))
+        behind : drop fed.length buffer ≡ drop fed.length buffer₀
+        behind = rw f.buffered (drop_at (so_far i).output (drop fed.length buffer₀) fed.length (sym f.printed))
 
-        rest : length (drop end buffer₀) ≡ length buffer - end
-        rest = length-drop end buffer₀ ∙ ap (λ (k : ℕ). k - end) (sym kept)
+        rest : length (drop fed.length buffer₀) ≡ length buffer - fed.length
+        rest = length-drop fed.length buffer₀ ∙ ap (λ (k : ℕ). k - fed.length) (sym kept)
 
-        lent : mid_of end (length buffer - end) buffer ≡ drop end buffer₀
-        lent = rw behind (take_all (length buffer - end) (drop end buffer₀) (omega (arith, rest)))
+        lent : mid_of fed.length (length buffer - fed.length) buffer ≡ drop fed.length buffer₀
+        lent = rw behind (take_all (length buffer - fed.length) (drop fed.length buffer₀) (omega (arith, rest)))
 
-        module _ (e : filling r part ≡ fed_with read (byte ∷ []) (mid_of end (length buffer - end) buffer)) where
-          known : filling r part ≡ fed_into next (drop end buffer₀)
+        module _
+            (e : filling r part ≡ fed_with fed.number (byte ∷ []) (mid_of fed.length (length buffer - fed.length) buffer)) where
+          known : filling r part ≡ fed_into next (drop fed.length buffer₀)
           known =
-              let w = end-within in
-              let room-left : 22 ≤ length (drop end buffer₀) = omega (arith, rest, kept) in
-              e ∙ ap (fed_with read (byte ∷ [])) lent ∙ sym (fed-whole read (byte ∷ []) (drop end buffer₀) next room-left refl)
+              let w = length-within in
+              let room-left : 22 ≤ length (drop fed.length buffer₀) = omega (arith, rest, kept) in
+              e ∙ ap (fed_with fed.number (byte ∷ [])) lent
+              ∙ sym (fed-whole fed.number (byte ∷ []) (drop fed.length buffer₀) next room-left refl)
 
-          fed-is : r ≡ record { answer = 0; number = next.number; length = length next.output }
+          pub fed-is : r ≡ Ok (record { number = next.number; length = length next.output })
           fed-is = ap (λ (x : Filling). x.fed) known
 
-          part-is : part ≡ next.output ++ drop (length next.output) (drop end buffer₀)
+          part-is : part ≡ next.output ++ drop (length next.output) (drop fed.length buffer₀)
           part-is = ap (λ (x : Filling). x.buffer) known
 
           read_next : so_far (i + 1) ≡ output_before (so_far i).output next
@@ -229,14 +262,17 @@ module _ (n : Number) (piece buffer₀ : List ℕ) where
               ap (read_on n) (taken_next piece i h) ∙ read-append n (take i piece) (byte ∷ [])
               ∙ ap (λ (m : Number). output_before (so_far i).output (read_on m (byte ∷ []))) (sym f.number)
 
-          put_back : put_mid end (length buffer - end) buffer part ≡ ((so_far i).output ++ next.output) ++ drop (end + length next.output) buffer₀
+          put_back : put_mid fed.length (length buffer - fed.length) buffer part
+              ≡ ((so_far i).output ++ next.output) ++ drop (fed.length + length next.output) buffer₀
           put_back =
-              let none : drop (length buffer - end) (drop end buffer) ≡ [] =
-              rw behind (drop_of_length-le (drop end buffer₀) {i = length buffer - end} (omega (arith, rest))) in
+              let none : drop (length buffer - fed.length) (drop fed.length buffer) ≡ [] =
+              rw behind (drop_of_length-le (drop fed.length buffer₀) {i = length buffer - fed.length} (omega (arith, rest))) in
               rw (before, none, part-is, append-nil, drop-drop) (sym (append_assoc (so_far i).output next.output _))
 
-          pub byte-read : FedTo (put_mid end (length buffer - end) buffer part) r.number (end + r.length) (i + 1)
-          byte-read = rw (fed-is, put_back) record {
+          pub byte-read : (more : Fed) → r ≡ Ok more
+              → FedTo (put_mid fed.length (length buffer - fed.length) buffer part)
+              (record { number = more.number; length = fed.length + more.length }) (i + 1)
+          byte-read more g = rw (same-Ok _ g fed-is, put_back) record {
             within = omega arith;
             number = ap (λ (p : Progress). p.number) (sym read_next);
             printed = rw read_next (sym (length-append (so_far i).output next.output ∙ ap (λ (k : ℕ). k + length next.output) (sym f.printed)));

@@ -3,20 +3,21 @@ use Rattle.std.proofs.Common.{◌≡◌, ℕ, ◌+◌, ◌*◌, ◌^◌, ◌<◌
 use native.Mathlib.Decide.{dec_le, dec_lt}
 use borrow.Author.Tests.{lt-leb}
 use lib.Seq.{take-append_seam}
-use Rattle.formats.specs.declared.Number.{Number}
-use Rattle.formats.specs.declared.Number.TheVariants.{Blank, Value, Invalid}
+use Rattle.formats.specs.declared.numerals.Number.{Number}
+use Rattle.formats.specs.declared.numerals.Number.TheVariants.{Blank, Value, Invalid}
 use Rattle.formats.specs.Decimal.{digit, digits_by, decimal}
 use Rattle.formats.specs.Number.{number_in, with_byte, only_digits}
 use Rattle.formats.specs.Written.{filled_with}
 use Rattle.formats.proofs.Decimals.{by-tens, decimal-one, decimal-more}
 use Rattle.formats.proofs.DecimalNumbers.{number-decimal, digit-next, only-decimal, is_digit-digit}
 use Rattle.formats.proofs.Numbers.{number-next, only-append, value-fits}
-use Rattle.reading.specs.declared.Parsed.{Parsed}
+use Rattle.reading.specs.declared.parsing.Malformed.{Malformed}
 use Rattle.reading.specs.Text.{signed, minus, point, sign_of, whole_part, tenth_part, count_text, text_of}
-use Rattle.reading.specs.Text.{has_minus, word_for, same_bytes, accepted, no_word, read_as, parsed_by, parsed_of}
+use Rattle.reading.specs.Text.{has_minus, word_for, no_word, read_as, parsed_by, parsed_of}
 use Rattle.reading.specs.Claim.{Printed, ReadingClaim}
 use Rattle.reading.specs.Examples.{bytes_of, all_print, ExamplesClaim}
-use Rattle.reading.proofs.SameBytes.{same_refl, same_true}
+use Rattle.std.specs.Prelude.{Result, Ok}
+use Rattle.std.proofs.lemmas.Slice.Eq.{bytes_eq-Decides}
 use Rattle.reading.proofs.Texts.{signed_low, signed_high, whole_is, tenth-is, tenth-small, text-longest, text-shortest}
 
 -- the digits of a count's text are those of its whole part, then that of its tenths
@@ -76,13 +77,19 @@ module _ (w : ℕ) (h : w < 2 ^ 64) where
     | no q ↦ rw (signed_high w (omega arith)) (omega arith)
   ]
 
-  pub parsed-text : parsed_of (text_of w) ≡ accepted w
+  pub parsed-text : parsed_of (text_of w) ≡ Ok w
   unfolding parsed_of
-  parsed-text = ap (λ (n : Number). parsed_by n (text_of w)) text-read ∙ ap (λ (v : ℕ). read_as v (text_of w)) word_back ∙ rw (same_refl (text_of w))
+  parsed-text =
+      ap (λ (n : Number). parsed_by n (text_of w)) text-read ∙ ap (λ (v : ℕ). read_as v (text_of w)) word_back
+      ∙ rw ((bytes_eq-Decides (text_of w) (text_of w)).1 refl)
+
+-- what was accepted is one word, and no refusal
+Ok-same : {v w : ℕ} → ◌≡◌ {A = Result ℕ Malformed} (Ok v) (Ok w) → v ≡ w
+Ok-same e = cc
 
 -- no two words print alike
 pub distinct : (v w : ℕ) → v < 2 ^ 64 → w < 2 ^ 64 → text_of v ≡ text_of w → v ≡ w
-distinct v w h k e = ap (λ (p : Parsed). p.word) (sym (parsed-text v h) ∙ ap parsed_of e ∙ parsed-text w k)
+distinct v w h k e = Ok-same (sym (parsed-text v h) ∙ ap parsed_of e ∙ parsed-text w k)
 
 -- a word read from a text is below 2^64, and prints as the text
 word_fits : (b : Bool) (v : ℕ) → v < 2 ^ 64 → word_for b v < 2 ^ 64
@@ -92,25 +99,25 @@ word_fits false v h = h
 module _ (text : List ℕ) where
   -- a text is refused, or is that of a word below 2^64
   read-cases : (n : Number) → number_in (only_digits text) ≡ n
-      → (parsed_by n text ≡ no_word) ⊎ ((w : ℕ) × (w < 2 ^ 64) × (text_of w ≡ text) × (parsed_by n text ≡ accepted w))
+      → (parsed_by n text ≡ no_word) ⊎ ((w : ℕ) × (w < 2 ^ 64) × (text_of w ≡ text) × (parsed_by n text ≡ Ok w))
   read-cases Blank e = inl refl
   read-cases Invalid e = inl refl
-  read-cases (Value v) e = pick _ (same_true (text_of word) text)
+  read-cases (Value v) e = pick _ (bytes_eq-Decides (text_of word) text).0
     where
       word : ℕ
       word = word_for (has_minus text) v
 
       pick : (b : Bool) → (b ≡ true → text_of word ≡ text)
-          → (cond b (accepted word) no_word ≡ no_word) ⊎ ((w : ℕ) × (w < 2 ^ 64) × (text_of w ≡ text) × (cond b (accepted word) no_word ≡ accepted w))
+          → (cond b (Ok word) no_word ≡ no_word) ⊎ ((w : ℕ) × (w < 2 ^ 64) × (text_of w ≡ text) × (cond b (Ok word) no_word ≡ Ok w))
       pick true f = inr (word, word_fits (has_minus text) v (value-fits (only_digits text) v e), f refl, refl)
       pick false f = inl refl
 
-  pub taken : (w : ℕ) → parsed_of text ≡ accepted w → (w < 2 ^ 64) × (text_of w ≡ text)
+  pub taken : (w : ℕ) → parsed_of text ≡ Ok w → (w < 2 ^ 64) × (text_of w ≡ text)
   unfolding parsed_of
   taken w e = ⊎_elim
-      (λ f. absurd (let z : ◌≡◌ {A = ℕ} 18 0 = ap (λ (p : Parsed). p.answer) (sym f ∙ e) in omega arith))
+      (λ f. let g : no_word ≡ Ok w = sym f ∙ e in cc)
       (λ p.
-      let same : p.0 ≡ w = ap (λ (x : Parsed). x.word) (sym p.3 ∙ e) in
+      let same : p.0 ≡ w = Ok-same (sym p.3 ∙ e) in
       (rw same at p.1, rw same at p.2))
       (read-cases (number_in (only_digits text)) refl)
 
@@ -119,14 +126,13 @@ module _ (text : List ℕ) where
   refused none = ⊎_elim (λ e. e) (λ p. absurd (none p.0 p.1 p.2)) (read-cases (number_in (only_digits text)) refl)
 
 -- the text in a buffer that had room for it
-printed-back : (w : ℕ) → w < 2 ^ 64 → (buffer text : List ℕ) → Printed w buffer text → parsed_of text ≡ accepted w
+printed-back : (w : ℕ) → w < 2 ^ 64 → (buffer text : List ℕ) → Printed w buffer text → parsed_of text ≡ Ok w
 unfolding filled_with
 printed-back w h buffer text p = elim (dec_le (length (text_of w)) (length buffer)) [
   | yes fits ↦
-      let e = rw (le-leb (length (text_of w)) (length buffer) fits) at p.1 in
+      let e = rw (le-leb (length (text_of w)) (length buffer) fits) at p in
       ap parsed_of (e ∙ take-append_seam (text_of w) _) ∙ parsed-text w h
-  | no short ↦
-      let e = rw (lt-leb (length (text_of w)) (length buffer) (omega arith)) at p.0 in absurd (omega arith)
+  | no short ↦ absurd (rw (lt-leb (length (text_of w)) (length buffer) (omega arith)) at p)
 ]
 
 pub reading-claim : ReadingClaim
@@ -139,5 +145,5 @@ reading-claim = record {
 }
 
 pub examples-print : ExamplesClaim
-unfolding all_print bytes_of same_bytes count_text decimal digits_by
+unfolding all_print bytes_of count_text decimal digits_by
 examples-print = refl

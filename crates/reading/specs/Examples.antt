@@ -2,7 +2,8 @@
 use Rattle.std.specs.Prelude.{◌≡◌, ℕ, ◌-◌, ◌^◌, Bool, true, ◌&&◌, List, [], ◌∷◌}
 use Prim.Native.Char.{code}
 use Prim.Native.String as S
-use Rattle.reading.specs.Text.{text_of, same_bytes}
+use Rattle.std.specs.Str.{bytes_eq}
+use Rattle.reading.specs.Text.{text_of}
 
 -- a quoted text, byte by byte
 unfoldable pub bytes_of : S.String → List ℕ
@@ -28,7 +29,7 @@ examples =
 
 unfoldable pub all_print : List Example → Bool
 all_print [] = true
-all_print (x ∷ xs) = same_bytes (text_of x.word) (bytes_of x.text) && all_print xs
+all_print (x ∷ xs) = bytes_eq (text_of x.word) (bytes_of x.text) && all_print xs
 
 abbrev pub ExamplesClaim : Type 0
 ExamplesClaim = all_print examples ≡ true

@@ -1,10 +1,11 @@
 -- Words to readings, line by line: what the program `readings` writes for a text, read whole or in pieces.
-use Rattle.std.specs.Prelude.{ℕ, ◌*◌, cond, List, [], ◌∷◌, ◌++◌, length, drop, ◌==◌, nat_le}
-use Rattle.formats.specs.declared.Number.{Number}
-use Rattle.formats.specs.declared.Number.TheVariants.{Blank, Value, Invalid}
+use Rattle.std.specs.Prelude.{ℕ, ◌*◌, cond, List, [], ◌∷◌, ◌++◌, length, drop, ◌==◌, nat_le, Result, Ok, Err}
+use Rattle.formats.specs.declared.numerals.Number.{Number}
+use Rattle.formats.specs.declared.numerals.Number.TheVariants.{Blank, Value, Invalid}
 use Rattle.formats.specs.Lines.{line_feed, lines_of}
 use Rattle.formats.specs.Number.{number_in, with_byte}
-use Rattle.reading.specs.declared.Fed.{Fed}
+use Rattle.reading.specs.declared.stream.Fed.{Fed}
+use Rattle.formats.specs.declared.answers.TooShort.{TooShort}
 use Rattle.reading.specs.Text.{text_of}
 
 -- the line for what is no number: 18
@@ -58,20 +59,19 @@ read_all number (piece ∷ pieces) =
 
 -- What `feed` hands back, and the buffer afterwards.
 pub record Filling : Type 0 where
-  pub fed : Fed
+  pub fed : Result Fed TooShort
   pub buffer : List ℕ
 
-abbrev pub filling : Fed → List ℕ → Filling
+abbrev pub filling : Result Fed TooShort → List ℕ → Filling
 filling fed buffer = record { fed = fed; buffer = buffer }
 
 -- the progress, with what was printed put into the buffer
 abbrev pub fed_into : Progress → List ℕ → Filling
 fed_into p buffer =
-    filling (record { answer = 0; number = p.number; length = length p.output })
-    (p.output ++ drop (length p.output) buffer)
+    filling (Ok (record { number = p.number; length = length p.output })) (p.output ++ drop (length p.output) buffer)
 
--- a buffer of 22 bytes for each byte of the piece is large enough; a smaller one gives 1, and nothing is done
+-- a buffer of 22 bytes for each byte of the piece is large enough; a smaller one is too short, and nothing is done
 unfoldable pub fed_with : Number → List ℕ → List ℕ → Filling
 fed_with number piece buffer =
     cond (nat_le (22 * length piece) (length buffer)) (fed_into (read_on number piece) buffer)
-    (filling (record { answer = 1; number = number; length = 0 }) buffer)
+    (filling (Err (record {})) buffer)

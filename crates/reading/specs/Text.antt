@@ -1,10 +1,11 @@
 -- A reading in one word, document 02 [2]: "a signed 64-bit count of tenths of an amp in two's complement".
-use Rattle.std.specs.Prelude.{ℕ, suc, ◌-◌, ◌%◌, ◌^◌, Bool, true, false, cond, ◌&&◌, List, [], ◌∷◌, ◌++◌, ℤ, pos, negsuc, ◌==◌, int_div, int_rem, nat_lt, unsigned_abs}
-use Rattle.formats.specs.declared.Number.{Number}
-use Rattle.formats.specs.declared.Number.TheVariants.{Blank, Value, Invalid}
+use Rattle.std.specs.Prelude.{ℕ, suc, ◌-◌, ◌%◌, ◌^◌, Bool, true, false, cond, List, [], ◌∷◌, ◌++◌, ℤ, pos, negsuc, ◌==◌, int_div, int_rem, nat_lt, unsigned_abs, Result, Ok, Err}
+use Rattle.std.specs.Str.{bytes_eq}
+use Rattle.formats.specs.declared.numerals.Number.{Number}
+use Rattle.formats.specs.declared.numerals.Number.TheVariants.{Blank, Value, Invalid}
 use Rattle.formats.specs.Decimal.{digit, decimal}
 use Rattle.formats.specs.Number.{number_in, only_digits}
-use Rattle.reading.specs.declared.Parsed.{Parsed}
+use Rattle.reading.specs.declared.parsing.Malformed.{Malformed}
 
 -- the count that a word below 2^64 holds; `negsuc n` is -(n + 1)
 abbrev pub signed : ℕ → ℤ
@@ -47,32 +48,24 @@ abbrev pub word_for : Bool → ℕ → ℕ
 word_for true magnitude = (2 ^ 64 - magnitude) % 2 ^ 64
 word_for false magnitude = magnitude
 
-unfoldable pub same_bytes : List ℕ → List ℕ → Bool
-same_bytes [] [] = true
-same_bytes [] (y ∷ ys) = false
-same_bytes (x ∷ xs) [] = false
-same_bytes (x ∷ xs) (y ∷ ys) = x == y && same_bytes xs ys
-
-abbrev pub parsed : ℕ → ℕ → Parsed
-parsed answer word = record { answer = answer; word = word }
-
-abbrev pub accepted : ℕ → Parsed
-accepted word = parsed 0 word
+-- document 02: a text that no word has "gives 18"
+abbrev pub malformed_number : Malformed → ℕ
+malformed_number refusal = 18
 
 -- a text that no word has
-abbrev pub no_word : Parsed
-no_word = parsed 18 0
+abbrev pub no_word : Result ℕ Malformed
+no_word = Err (record {})
 
 -- the word, if it prints as the text
-abbrev pub read_as : ℕ → List ℕ → Parsed
-read_as word text = cond (same_bytes (text_of word) text) (accepted word) no_word
+abbrev pub read_as : ℕ → List ℕ → Result ℕ Malformed
+read_as word text = cond (bytes_eq (text_of word) text) (Ok word) no_word
 
-abbrev pub parsed_by : Number → List ℕ → Parsed
+abbrev pub parsed_by : Number → List ℕ → Result ℕ Malformed
 parsed_by Blank text = no_word
 parsed_by (Value magnitude) text = read_as (word_for (has_minus text) magnitude) text
 parsed_by Invalid text = no_word
 
 -- "A printed reading leads back to its word": a text's digits, read as one magnitude, leave one word that it
 -- can be of
-unfoldable pub parsed_of : List ℕ → Parsed
+unfoldable pub parsed_of : List ℕ → Result ℕ Malformed
 parsed_of text = parsed_by (number_in (only_digits text)) text

@@ -1,27 +1,20 @@
 // The word of a text.
 ghost use Rattle.std.specs.Prelude.{◌≡◌};
-ghost use Rattle.reading.specs.Text.{has_minus, word_for, no_word, read_as, parsed_of};
+ghost use Rattle.reading.specs.Text.{malformed_number, word_for, read_as, parsed_of};
 
-use crate::{LONGEST, Parsed, print};
-use formats::{DONE, MALFORMED, Number};
+use crate::{LONGEST, print};
+use formats::{Number, Numbered};
 
-// The answer to a text that no word has.
-fn no_word() -> Parsed
-    ensures { result ≡ no_word }
-{
-    Parsed {
-        answer: MALFORMED,
-        word: 0,
+// A text isn't that of a word.
+#[derive(Clone, Copy, Debug, PartialEq, Eq, Hash)]
+pub struct Malformed;
+
+impl Numbered for Malformed {
+    ghost number = { malformed_number };
+
+    fn number(&self) -> u64 {
+        18
     }
-}
-
-fn has_minus(text: &[u8]) -> bool
-    ensures { result ≡ has_minus text.now }
-{
-    if text.len() == 0 {
-        return false;
-    }
-    text[0] == b'-'
 }
 
 // The word of a count, given by its sign and its magnitude.
@@ -29,32 +22,31 @@ fn word_for(negative: bool, magnitude: u64) -> u64
     ensures { result ≡ word_for negative magnitude }
 {
     if negative {
-        std::num::wrapping_sub_u64(0, magnitude)
+        magnitude.wrapping_neg()
     } else {
         magnitude
     }
 }
 
 // The word, if it prints as the text.
-fn read_as(word: u64, text: &[u8]) -> Parsed
+fn read_as(word: u64, text: &[u8]) -> Result<u64, Malformed>
     ensures { result ≡ read_as word text.now }
 {
     let mut own = [0u8; LONGEST];
-    let n = print(word, &mut own).length;
-    if check::same(&own[..n], text) {
-        Parsed { answer: DONE, word }
+    let size = print(word, &mut own).unwrap();
+    if &own[..size] == text {
+        Ok(word)
     } else {
-        no_word()
+        Err(Malformed)
     }
 }
 
 // The word that prints as the text, if there is one.
-pub fn parse(text: &[u8]) -> Parsed
+pub fn parse(text: &[u8]) -> Result<u64, Malformed>
     ensures { result ≡ parsed_of text.now }
 {
     match formats::number_of_digits(text) {
-        Number::Blank => no_word(),
-        Number::Value(magnitude) => read_as(word_for(has_minus(text), magnitude), text),
-        Number::Invalid => no_word(),
+        Number::Value(magnitude) => read_as(word_for(text.starts_with(b"-"), magnitude), text),
+        Number::Blank | Number::Invalid => Err(Malformed),
     }
 }

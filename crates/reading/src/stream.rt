@@ -3,100 +3,87 @@ ghost use Rattle.std.specs.Prelude.{◌≡◌, [], ◌∷◌};
 ghost use Rattle.formats.specs.Written.{filled, filled_with};
 ghost use Rattle.reading.specs.Stream.{printed_line, printed_last, filling, fed_with};
 
-use crate::{Fed, LINE, print};
-use formats::{DONE, Number, SIZE, Written};
+use crate::{LINE, print};
+use formats::{Number, TooShort};
 
 const LINE_FEED: u8 = b'\n';
 
+// What reading a piece of a text gives: what has been read of the last line, and the length of what was printed.
+#[derive(Clone, Copy, Debug, PartialEq, Eq, Hash)]
+pub struct Fed {
+    pub number: Number,
+    pub length: usize,
+}
+
 // Puts a word's reading into the buffer, on a line.
-fn put_reading(word: u64, buffer: &mut [u8]) -> Written
+fn put_reading(word: u64, buffer: &mut [u8]) -> Result<usize, TooShort>
     ensures { filled result buffer.new
         ≡ filled_with (printed_line (Number.Value word)) buffer.old }
 {
     let mut line = [0u8; LINE];
-    let end = print(word, &mut line).length;
+    let end = print(word, &mut line)?;
     line[end] = LINE_FEED;
     formats::put(&line[..end + 1], buffer)
 }
 
 // Puts the line for a number into the buffer: its reading, or 18.
-fn put_line(number: Number, buffer: &mut [u8]) -> Written
+fn put_line(number: Number, buffer: &mut [u8]) -> Result<usize, TooShort>
     ensures { filled result buffer.new
         ≡ filled_with (printed_line number) buffer.old }
 {
     match number {
-        Number::Blank => formats::put(b"18\n", buffer),
         Number::Value(word) => put_reading(word, buffer),
-        Number::Invalid => formats::put(b"18\n", buffer),
+        Number::Blank | Number::Invalid => formats::put(b"18\n", buffer),
     }
 }
 
 // Reads one byte more.
-fn feed_byte(number: Number, byte: u8, buffer: &mut [u8]) -> Fed
+fn feed_byte(number: Number, byte: u8, buffer: &mut [u8]) -> Result<Fed, TooShort>
     ensures { filling result buffer.new ≡ fed_with number (byte ∷ []) buffer.old }
 {
     if buffer.len() < LINE {
-        return Fed {
-            answer: SIZE,
-            number,
-            length: 0,
-        };
+        return Err(TooShort);
     }
     if byte == LINE_FEED {
-        let length = put_line(number, buffer).length;
-        return Fed {
-            answer: DONE,
+        let length = put_line(number, buffer)?;
+        return Ok(Fed {
             number: Number::Blank,
             length,
-        };
+        });
     }
-    Fed {
-        answer: DONE,
-        number: formats::with_byte(number, byte),
+    Ok(Fed {
+        number: number.with_byte(byte),
         length: 0,
-    }
+    })
 }
 
 // Reads the next piece of a text; `number` is what the pieces before have left of their last line. A line is printed
 // into the buffer for each that ends here. The buffer needs LINE bytes for each byte of the piece.
-pub fn feed(number: Number, piece: &[u8], buffer: &mut [u8]) -> Fed
+pub fn feed(number: Number, piece: &[u8], buffer: &mut [u8]) -> Result<Fed, TooShort>
     ensures { filling result buffer.new
         ≡ fed_with number piece.now buffer.old }
 {
     if buffer.len() / LINE < piece.len() {
-        return Fed {
-            answer: SIZE,
-            number,
-            length: 0,
+        return Err(TooShort);
+    }
+    let mut fed = Fed { number, length: 0 };
+    for byte in piece {
+        let more = feed_byte(fed.number, *byte, &mut buffer[fed.length..])?;
+        fed = Fed {
+            number: more.number,
+            length: fed.length + more.length,
         };
     }
-    let mut read = number;
-    let mut end = 0;
-    let mut i = 0;
-    while i < piece.len() {
-        let fed = feed_byte(read, piece[i], &mut buffer[end..]);
-        read = fed.number;
-        end += fed.length;
-        i += 1;
-    }
-    Fed {
-        answer: DONE,
-        number: read,
-        length: end,
-    }
+    Ok(fed)
 }
 
 // Ends the text: puts the line for a last line that lacks its line feed into the buffer.
-pub fn finish(number: Number, buffer: &mut [u8]) -> Written
+pub fn finish(number: Number, buffer: &mut [u8]) -> Result<usize, TooShort>
     ensures { filled result buffer.new
         ≡ filled_with (printed_last number) buffer.old }
 {
     match number {
-        Number::Blank => Written {
-            answer: DONE,
-            length: 0,
-        },
-        Number::Value(word) => put_reading(word, buffer),
-        Number::Invalid => put_line(Number::Invalid, buffer),
+        Number::Blank => Ok(0),
+        Number::Value(_) | Number::Invalid => put_line(number, buffer),
     }
 }

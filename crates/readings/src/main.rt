@@ -12,34 +12,22 @@ const PIECE: usize = 2048;
 
 const ROOM: usize = reading::LINE * PIECE;
 
-// Whether the text goes on, and what has been read of its last line.
-#[derive(Clone, Copy)]
-struct Turn {
-    more: bool,
-    number: Number,
-}
-
-// Reads a piece of the text, and writes what is printed for it.
+// Reads a piece of the text, and writes what is printed for it. Hands back what has been read of the piece's last line,
+// or nothing at the end of the text.
 fn read_piece(
     from: &mut impl Read,
     to: &mut impl Write,
     number: Number,
-    piece: &mut [u8],
-    output: &mut [u8],
-) -> io::Result<Turn> {
+    piece: &mut [u8; PIECE],
+    output: &mut [u8; ROOM],
+) -> io::Result<Option<Number>> {
     let n = from.read(piece)?;
     if n == 0 {
-        return Ok(Turn {
-            more: false,
-            number,
-        });
+        return Ok(None);
     }
-    let fed = reading::feed(number, &piece[..n], output);
+    let fed = reading::feed(number, &piece[..n], output).unwrap();
     to.write_all(&output[..fed.length])?;
-    Ok(Turn {
-        more: true,
-        number: fed.number,
-    })
+    Ok(Some(fed.number))
 }
 
 // A proved loop has to end, and nothing says that a text does: the turns are counted up to a number that no run
@@ -49,10 +37,9 @@ fn read_all(from: &mut impl Read, to: &mut impl Write) -> io::Result<Number> {
     let mut output = [0u8; ROOM];
     let mut number = Number::Blank;
     for _ in 0..u64::MAX {
-        let next = read_piece(from, to, number, &mut piece, &mut output)?;
-        number = next.number;
-        if !next.more {
-            return Ok(number);
+        match read_piece(from, to, number, &mut piece, &mut output)? {
+            Some(read) => number = read,
+            None => break,
         }
     }
     Ok(number)
@@ -61,6 +48,6 @@ fn read_all(from: &mut impl Read, to: &mut impl Write) -> io::Result<Number> {
 fn main(rt: HostRuntime) -> io::Result<()> {
     let mut line = [0u8; reading::LINE];
     let number = read_all(&mut rt.stdin(), &mut rt.stdout())?;
-    let length = reading::finish(number, &mut line).length;
+    let length = reading::finish(number, &mut line).unwrap();
     rt.write_all(&line[..length])
 }

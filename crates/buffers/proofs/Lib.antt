@@ -1,10 +1,6 @@
--- Laws that take the arrays of a buffer to the list of its entries, and of what is logged of it.
-pub mod KeyedEntries
+-- Laws of the list of a buffer's entries: what it is by the array, and where the entry of a word stands in it.
 pub mod Waiting
-pub mod Places
-pub mod Removed
-pub mod Placed
-pub mod Refilled
+mod Places
+mod OldestLoop
 pub mod LoggedLines
-pub mod Guards
-pub mod OldestLoop
+mod AddedEntries

@@ -1,70 +1,99 @@
--- The entries that wait in a buffer, by the lists of their fields, after an entry was put at a place or added.
-use Prim.Native.Nat.{ℕ, ◌+◌, ◌<◌}
-use mathlib.Core.Path.{◌≡◌, ap₂, refl}
+-- The entries that wait in a buffer, by its array.
+use Prim.Native.Nat.{ℕ, ◌+◌, ◌-◌, ◌≤◌, ◌<◌, min}
+use mathlib.Core.Path.{◌≡◌, sym, ap, ap₂, ◌∙◌}
 use mathlib.Core.List.{List, [], ◌∷◌, ◌++◌}
-use native.Mathlib.Numerals.{add-one}
+use native.Mathlib.Decide.{dec_lt}
 use native.Mathlib.Omega.{arith}
-use lib.ListN.{length, get_or, set, length-set}
-use lib.Seq.{get_or-set_same, get_or-set_other}
+use borrow.Author.Tests.{le-leb, lt-leb}
+use lib.ListN.{length, get_or, take, drop, set, length-take, length-drop, length-set}
+use lib.Seq.{length-take-le, get_or-take, take_all, take-take, take-add, drop_at, paste, length-paste}
+use Rattle.std.specs.List.{copy_within}
+use Rattle.std.proofs.lemmas.List.{take_more_set}
+use Rattle.std.proofs.lemmas.List.Edits.{take-paste}
 use Rattle.parts.specs.declared.Entry.{Entry}
-use Rattle.buffers.specs.declared.UndoBuffer.{UndoBuffer}
-use Rattle.buffers.specs.declared.RedoBuffer.{RedoBuffer}
 use Rattle.parts.specs.Listed.{listed}
-use Rattle.buffers.specs.Waiting.{keyed, entry_of, waiting_of}
-use Rattle.parts.proofs.Listed.{listed-ext}
+use Rattle.parts.proofs.Listed.{length-listed, listed_of}
+use Rattle.parts.proofs.Oldest.{take-least}
+use Rattle.buffers.specs.declared.entries.Buffer.{Buffer}
+use Rattle.buffers.specs.Waiting.{no_entry, waiting, present}
 
--- the entry at a place of a buffer
-abbrev pub undo_at : UndoBuffer → ℕ → Entry
-undo_at b = entry_of b.keys b.undos b.redos
+-- there are as many as the length says
+pub length-waiting : {n : ℕ} (b : Buffer n) → length (waiting b) ≡ b.len
+length-waiting b = length-listed b.len (λ i. get_or b.entries i no_entry)
 
-abbrev pub redo_at : RedoBuffer → ℕ → Entry
-redo_at b = entry_of b.keys [] b.redos
+-- in an empty buffer none waits
+pub waiting-none : {n : ℕ} (b : Buffer n) → b.len ≡ 0 → waiting b ≡ []
+unfolding listed
+waiting-none b e = rw e
 
--- there are n places for each field that both buffers have, as in every value of the structs
-pub record WholeKeys (n : ℕ) (ks rs : List ℕ) : Type 0 where
-  pub keys : length ks ≡ n
-  pub redos : length rs ≡ n
+-- those that wait can be read
+pub present-waiting : {n : ℕ} (b : Buffer n) → b.len ≤ n → present b ≡ waiting b
+present-waiting {n} b short = rw (le-leb b.len n short)
 
--- and for the undos too
-pub record WholeBuffer (n : ℕ) (ks us rs : List ℕ) : Type 0 where
-  pub both : WholeKeys n ks rs
-  pub undos : length us ≡ n
+-- the first elements of an array, one after the other
+pub first : (k : ℕ) (es : List Entry) → k ≤ length es → listed k (λ i. get_or es i no_entry) ≡ take k es
+first k es h =
+    sym (listed_of k (λ i. get_or es i no_entry) (take k es) no_entry (length-take-le k es h) (λ i l. get_or-take k es i no_entry l))
 
--- two entries are equal, if their keys and values are
-pub keyed-eq : {k u r l v s : ℕ} → k ≡ l → u ≡ v → r ≡ s → keyed k u r ≡ keyed l v s
-keyed-eq k u r = λ i. keyed (k i) (u i) (r i)
+-- the first k of the first n
+least-take : (k n : ℕ) (es : List Entry) → take (min k n) es ≡ take k (take n es)
+least-take k n es =
+    elim (dec_lt k n) [
+      | yes p ↦ let e : min k n ≡ k = omega arith in rw (e, take-take k n es (omega arith))
+      | no q ↦
+          let e : min k n ≡ n = omega arith in
+          let l : length (take n es) ≤ k = rw length-take (omega arith) in
+          rw (e, take_all k (take n es) l)
+    ]
 
--- the lists of the fields, and the key, undo and redo of an entry
-module _ (keys undos redos : List ℕ) (key undo redo : ℕ) where
-  -- the entry at each place, after the one at place i was replaced
-  abbrev put_entry : ℕ → ℕ → Entry
-  put_entry i = entry_of (set keys i key) (set undos i undo) (set redos i redo)
+-- a buffer with its places
+module _ {n : ℕ} (b : Buffer n) (full : length b.entries ≡ n) where
+  -- the first entries of its array wait
+  pub waiting-take : b.len ≤ n → waiting b ≡ take b.len b.entries
+  waiting-take short = first b.len b.entries (omega arith)
 
-  -- the other entries remain
-  put_other : (i k : ℕ) → (k ≡ i → ⊥) → put_entry i k ≡ entry_of keys undos redos k
-  put_other i k ne =
-      keyed-eq (get_or-set_other keys i k key 0 ne) (get_or-set_other undos i k undo 0 ne) (get_or-set_other redos i k redo 0 ne)
+  pub present-take : present b ≡ take b.len b.entries
+  present-take =
+      elim (dec_lt n b.len) [
+        | yes p ↦ rw (lt-leb b.len n p) (sym (take_all b.len b.entries (omega arith)))
+        | no q ↦ present-waiting b (omega arith) ∙ waiting-take (omega arith)
+      ]
 
-  -- an entry next after the last one waits after the others, if its undo is there
-  added-put : (n len : ℕ) → WholeKeys n keys redos → len < n → get_or (set undos len undo) len 0 ≡ undo
-      → listed (len + 1) (put_entry len) ≡ waiting_of len keys undos redos ++ (keyed key undo redo ∷ [])
-  unfolding listed
-  added-put n len w h u =
-      rw add-one
-      (ap₂ (λ (es : List Entry) (x : Entry). es ++ (x ∷ []))
-      (listed-ext len (put_entry len) (entry_of keys undos redos) (λ i l. put_other len i (omega arith)))
-      (keyed-eq (get_or-set_same keys len key 0 (omega (arith, w.keys))) u (get_or-set_same redos len redo 0 (omega (arith, w.redos)))))
+  -- no more can be read than there are places
+  pub present-all : take n (present b) ≡ present b
+  present-all = rw present-take (take_all n (take b.len b.entries) (rw length-take (omega arith)))
 
-  -- so in the undo+redo buffer
-  pub waiting-added : (n len : ℕ) → WholeBuffer n keys undos redos → len < n
-      → listed (len + 1) (put_entry len) ≡ waiting_of len keys undos redos ++ (keyed key undo redo ∷ [])
-  waiting-added n len w h = added-put n len w.both h (get_or-set_same undos len undo 0 (omega (arith, w.undos)))
+  -- the oldest of them
+  pub oldest-take : (k i : ℕ) → i ≡ min (min k b.len) n → take i b.entries ≡ take k (present b)
+  oldest-take k i e =
+      take-least i (min k b.len) b.entries (omega arith) ∙ least-take k b.len b.entries ∙ ap (take k) (sym present-take)
 
--- and in the redo buffer, in which an entry has no undo
-pub redo-added : (keys redos : List ℕ) (key redo n len : ℕ) → WholeKeys n keys redos → len < n
-    → waiting_of (len + 1) (set keys len key) [] (set redos len redo) ≡ waiting_of len keys [] redos ++ (keyed key 0 redo ∷ [])
-redo-added keys redos key redo n len w h = added-put keys [] redos key 0 redo n len w h refl
+  -- those that are left, once some were taken
+  pub waiting-out : (at count : ℕ) → at + count ≤ b.len → b.len ≤ n
+      → waiting {n = n} (record { len = b.len - count; entries = copy_within b.entries (at + count) b.len at })
+      ≡ take at (waiting b) ++ drop (at + count) (waiting b)
+  waiting-out at count a short =
+      let xs : List Entry = b.entries in
+      let from : ℕ = at + count in
+      let m : ℕ = b.len - from in
+      let ys : List Entry = drop from xs in
+      let left : b.len - count ≡ at + m = omega arith in
+      let whole : b.len ≡ from + m = omega arith in
+      let size : length ys ≡ length xs - from = length-drop from xs in
+      let long : length (paste xs at ys m) ≡ length xs = length-paste xs at ys m (omega arith) (omega arith) in
+      let halves : take b.len xs ≡ take from xs ++ take m ys = ap (λ (k : ℕ). take k xs) whole ∙ take-add from m xs in
+      first (b.len - count) (paste xs at ys m) (omega arith)
+      ∙ ap (λ (k : ℕ). take k (paste xs at ys m)) left
+      ∙ take-paste xs at ys m (omega arith) (omega arith)
+      ∙ sym (rw (waiting-take short) (ap₂ (λ (ps qs : List Entry). ps ++ qs)
+      (take-take at b.len xs (omega arith))
+      (ap (drop from) halves ∙ drop_at (take from xs) (take m ys) from (length-take-le from xs (omega arith)))))
 
--- no field has more or fewer places after a redo entry was put
-pub keys-put : (n i k r : ℕ) (keys redos : List ℕ) → WholeKeys n keys redos → WholeKeys n (set keys i k) (set redos i r)
-keys-put n i k r keys redos w = record { keys = simp length-set w.keys; redos = simp length-set w.redos }
+  -- one more
+  pub waiting-more : (e : Entry) → b.len < n
+      → waiting {n = n} (record { len = b.len + 1; entries = set b.entries b.len e }) ≡ waiting b ++ (e ∷ [])
+  waiting-more e h =
+      let long : length (set b.entries b.len e) ≡ length b.entries = length-set b.entries b.len e in
+      first (b.len + 1) (set b.entries b.len e) (omega arith)
+      ∙ take_more_set b.entries b.len e (omega arith)
+      ∙ ap (λ (es : List Entry). es ++ (e ∷ [])) (sym (waiting-take (omega arith)))

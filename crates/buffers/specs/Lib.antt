@@ -1,6 +1,3 @@
--- A log buffer as the list of its entries, how its arrays change, and what is logged of it.
-pub mod Keys
+-- A log buffer as the list of its entries, and the entries that the words of a line add.
 pub mod Waiting
-pub mod Arrays
-pub mod Filled
-pub mod Records
+pub mod Added

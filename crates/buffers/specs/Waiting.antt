@@ -1,34 +1,30 @@
--- A log buffer is the list of its entries, oldest first. Document 01: "both first in, first out".
-use Rattle.std.specs.Prelude.{ℕ, List, [], get_or, replicate}
+-- A log buffer is the list of its entries, oldest first.
+use Rattle.std.specs.Prelude.{ℕ, Bool, cond, List, leb, get_or, replicate}
 use Rattle.parts.specs.declared.Entry.{Entry}
-use Rattle.buffers.specs.declared.UndoBuffer.{UndoBuffer}
-use Rattle.buffers.specs.declared.RedoBuffer.{RedoBuffer}
 use Rattle.parts.specs.Listed.{listed}
-use Rattle.buffers.specs.Keys.{key_thread, key_word}
+use Rattle.buffers.specs.declared.entries.Buffer.{Buffer}
 
--- an entry by its key
-abbrev pub keyed : ℕ → ℕ → ℕ → Entry
-keyed key undo redo = record { thread = key_thread key; word = key_word key; undo = undo; redo = redo }
+-- what stands in a place that is not in use, until an entry has stood there
+abbrev pub no_entry : Entry
+no_entry = record { thread = 0; word = 0; undo = 0; redo = 0 }
 
--- the entry at a place, by the lists of the fields; a field that has no such place is 0
-abbrev pub entry_of : List ℕ → List ℕ → List ℕ → ℕ → Entry
-entry_of keys undos redos i = keyed (get_or keys i 0) (get_or undos i 0) (get_or redos i 0)
+-- the entry at a place; past the last place `no_entry`
+abbrev pub entry_at : {n : ℕ} → Buffer n → ℕ → Entry
+entry_at b i = get_or b.entries i no_entry
 
--- the first entries, as many as a length says
-abbrev pub waiting_of : ℕ → List ℕ → List ℕ → List ℕ → List Entry
-waiting_of len keys undos redos = listed len (entry_of keys undos redos)
+-- The entries that wait: as many as the length says. Of a length above the places the list is too long, so that such a
+-- state stays visible.
+abbrev pub waiting : {n : ℕ} → Buffer n → List Entry
+waiting b = listed b.len (entry_at b)
 
--- the entries that wait in the undo+redo buffer
-abbrev pub undos_waiting : UndoBuffer → List Entry
-undos_waiting b = waiting_of b.len b.keys b.undos b.redos
+-- they have their places
+abbrev pub fits : {n : ℕ} → Buffer n → Bool
+fits {n} b = leb b.len n
 
--- those that wait in the redo buffer: there are no undos, so that each is 0
-abbrev pub redos_waiting : RedoBuffer → List Entry
-redos_waiting b = waiting_of b.len b.keys [] b.redos
+-- the entries that can be read: those that wait, or what stands in the places, if the length is above them
+abbrev pub present : {n : ℕ} → Buffer n → List Entry
+present b = cond (fits b) (waiting b) b.entries
 
--- buffers in which nothing waits, every place 0
-abbrev pub empty_undos : UndoBuffer
-empty_undos = record { undos = replicate 16 0; redos = replicate 16 0; len = 0; keys = replicate 16 0 }
-
-abbrev pub empty_redos : RedoBuffer
-empty_redos = record { redos = replicate 32 0; len = 0; keys = replicate 32 0 }
+-- a buffer of n places in which nothing waits, every place 0
+abbrev pub empty_buffer : (n : ℕ) → Buffer n
+empty_buffer n = record { len = 0; entries = replicate n no_entry }

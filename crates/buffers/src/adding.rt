@@ -1,33 +1,34 @@
-// An entry added to the undo+redo buffer, array by array: of `len` entries the `gone` oldest are taken, and the new
-// one's number is put next after the others. Where there is no such place nothing is put.
-ghost use Rattle.std.specs.Prelude.{◌≡◌, ◌-◌, length, set};
-ghost use Rattle.buffers.specs.Arrays.{removed};
+// "each ULog word, rising, adds a redo entry of its working value for the line's holder"
+ghost use Rattle.std.specs.Prelude.{◌≡◌, ◌+◌, ◌&&◌, cond, ◌++◌, leb, length};
+ghost use Rattle.buffers.specs.Waiting.{waiting};
+ghost use Rattle.buffers.specs.Added.{is_there, ulog_entries};
 
-use crate::UndoBuffer;
-use lines::less;
+use crate::RedoBuffer;
+use parts::{Entry, Line, WordState};
 
-pub fn push_key(keys: &mut [u16; 16], len: usize, gone: usize, key: u16)
-    ensures { length keys.old ≡ 16
-        → keys.new ≡ set (removed 0 gone len keys.old) (len - gone) key }
-{
-    if gone != 0 {
-        UndoBuffer::remove_keys(keys, 0, gone, len);
-    }
-    let at = less(len, gone);
-    if at < 16 {
-        keys[at] = key;
-    }
-}
-
-pub fn push_value(values: &mut [u64; 16], len: usize, gone: usize, value: u64)
-    ensures { length values.old ≡ 16
-        → values.new ≡ set (removed 0 gone len values.old) (len - gone) value }
-{
-    if gone != 0 {
-        UndoBuffer::remove_values(values, 0, gone, len);
-    }
-    let at = less(len, gone);
-    if at < 16 {
-        values[at] = value;
+impl RedoBuffer {
+    // Adds the entries of a line, `at` being its number. Nothing is added where there is no place for all of them, nor
+    // of a line that is not there.
+    pub fn add_ulog_words(&mut self, line: &Line, at: usize, working: &[u64])
+        ensures { waiting self.new
+            ≡ cond (is_there at working.now && leb (self.old.len + length (ulog_entries line.now at working.now)) 32)
+            (waiting self.old ++ ulog_entries line.now at working.now) (waiting self.old) }
+    {
+        if 64 <= at
+            || working.len() < 8 * at + 8
+            || 32 - lines::count_ulog(line.states) < self.len
+        {
+            return;
+        }
+        for j in 0..8 {
+            if lines::state_at(line.states, j as u64) == WordState::ULog {
+                self.push(Entry {
+                    thread: line.holder,
+                    word: (8 * at + j) as u16,
+                    undo: 0,
+                    redo: working[8 * at + j],
+                });
+            }
+        }
     }
 }

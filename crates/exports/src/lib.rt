@@ -45,5 +45,8 @@ pub extern "C" fn rukwetid_run(
         answers,
         stores,
     );
-    ran.answer
+    match ran.answer {
+        Ok(()) => 0,
+        Err(refusal) => refusal.number(),
+    }
 }

@@ -1,7 +1,6 @@
 -- Laws that the proofs of the functions share, and that callers use.
 pub mod FirstLines
 pub mod LinesInUse
-pub mod WordStates
 pub mod LineStores
 pub mod ReleasedLines
 pub mod LineWords

@@ -5,26 +5,27 @@ use mathlib.Core.Bool.{Bool, true, false, cond, ◌||◌}
 use mathlib.Core.List.{List, [], ◌∷◌, ◌++◌, map, map-append}
 use native.Mathlib.Omega.{arith}
 use lib.Dec.{eqb}
-use lib.ListN.{length, length-append}
+use Rattle.std.specs.List.{filter, list_any}
 use Rattle.parts.specs.declared.Line.{Line}
-use Rattle.lines.specs.declared.Lines.{Lines}
 use Rattle.parts.specs.Listed.{listed}
 use Rattle.lines.specs.Lines.{line_at, first_lines}
 use Rattle.parts.specs.States.{state_at}
 use Rattle.model.specs.Lists.{keep, any, up_to}
 use Rattle.model.specs.Machine.{state_in, words_of}
 use Rattle.model.proofs.Entries.{keep_append}
-use Rattle.model.proofs.FirstNumbers.{keep-next}
 use Rattle.model.proofs.Records.{any_append}
-use Rattle.lines.proofs.LinesInUse.{line-in-use}
+use Rattle.lines.proofs.LinesInUse.{line-listed}
 
--- how many pass a test, with one word more
-pub count_next : (f : ℕ → Bool) (n : ℕ) (t : Bool) → f n ≡ t → length (keep f (up_to (n + 1))) ≡ length (keep f (up_to n)) + cond t 1 0
-count_next f n t e =
-    ap length (keep-next f n t e)
-    ∙ length-append (keep f (up_to n)) (cond t (n ∷ []) [])
-    ∙ ap (λ (k : ℕ). length (keep f (up_to n)) + k)
-    (elim t as (λ (s : Bool). length (cond s (n ∷ []) []) ≡ cond s 1 0) [ true ↦ refl | false ↦ refl ])
+-- the words that pass a test, and whether any does, in the words of std
+pub keep-filter : {A : Type 0} (f : A → Bool) (xs : List A) → keep f xs ≡ filter f xs
+unfolding keep
+keep-filter f [] = refl
+keep-filter {A} f (x ∷ xs) = ap (λ (ys : List A). cond (f x) (x ∷ ys) ys) (keep-filter f xs)
+
+pub any-list : {A : Type 0} (f : A → Bool) (xs : List A) → any f xs ≡ list_any f xs
+unfolding any
+any-list f [] = refl
+any-list f (x ∷ xs) = ap (λ (b : Bool). f x || b) (any-list f xs)
 
 -- a test of numbers listed, as one of their places: those that pass it, and whether any does
 keep-listed : (f h : ℕ → Bool) (g : ℕ → ℕ) (n : ℕ) → ((j : ℕ) → j < n → f (g j) ≡ h j) → keep f (listed n g) ≡ map g (keep h (up_to n))
@@ -45,14 +46,14 @@ any-listed f h g (suc n) same =
     ∙ ap₂ (λ (s t : Bool). s || (t || false)) (any-listed f h g n (λ j b. same j (omega arith))) (same n (omega arith))
     ∙ sym (any_append h (up_to n) (n ∷ []))
 
-module _ (n : ℕ) (ls : Lines) (i : ℕ) (below : i < n) where
+module _ (n : ℕ) (ls : List Line) (i : ℕ) (below : i < n) where
   -- the state of a word of a line in use
   pub state-below : (j : ℕ) → j < 8 → state_in (first_lines n ls) (8 * i + j) ≡ state_at (line_at ls i).states j
   unfolding state_in
   state-below j h =
       let line : (8 * i + j) / 8 ≡ i = omega arith in
       let word : (8 * i + j) % 8 ≡ j = omega arith in
-      rw (line, word) (ap (λ (l : Line). state_at l.states j) (sym (line-in-use n ls i below)))
+      rw (line, word) (ap (λ (l : Line). state_at l.states j) (sym (line-listed n ls i below)))
 
   -- its words that are in a state
   pub keep-below : (s : ℕ)

@@ -10,7 +10,6 @@ use lib.Dec.{eqb}
 use lib.ListN.{length, length-map}
 use Rattle.log_region.specs.Holding.{Every}
 use Rattle.parts.specs.declared.Line.{Line}
-use Rattle.lines.specs.declared.Lines.{Lines}
 use Rattle.parts.specs.Listed.{listed}
 use Rattle.lines.specs.Lines.{line_at, first_lines}
 use Rattle.parts.specs.States.{state_at, ULog}
@@ -20,7 +19,7 @@ use Rattle.model.specs.Machine.{line_of, words_of, state_in, holder_in}
 use Rattle.model.proofs.Lists.{every-listed}
 use Rattle.model.proofs.Entries.{keep_append}
 use Rattle.model.proofs.FirstNumbers.{keep-next}
-use Rattle.lines.proofs.LinesInUse.{line-in-use}
+use Rattle.lines.proofs.LinesInUse.{line-listed}
 use Rattle.lines.specs.Newest.{newest_words, ulog_word, newest_in_line}
 use Rattle.lines.proofs.LineWords.{keep-below}
 
@@ -48,16 +47,16 @@ keep-held f g t h (w ∷ ws) every =
     ])
 
 -- the words of a line are held by its holder
-line-held : (ls : Lines) (n i : ℕ) → i < n → Every (λ w. holder_in (first_lines n ls) w ≡ (line_at ls i).holder) (words_of i)
+line-held : (ls : List Line) (n i : ℕ) → i < n → Every (λ w. holder_in (first_lines n ls) w ≡ (line_at ls i).holder) (words_of i)
 unfolding holder_in
 line-held ls n i below =
     every-listed (λ w. holder_in (first_lines n ls) w ≡ (line_at ls i).holder) 8 (λ j. 8 * i + j)
     (λ j small.
     let q : (8 * i + j) / 8 ≡ i = omega arith in
-    ap (λ (k : ℕ). (line_of (first_lines n ls) k).holder) q ∙ ap (λ (line : Line). line.holder) (sym (line-in-use n ls i below)))
+    ap (λ (k : ℕ). (line_of (first_lines n ls) k).holder) q ∙ ap (λ (line : Line). line.holder) (sym (line-listed n ls i below)))
 
 -- one line more
-pub newest-line : (ls : Lines) (n t i : ℕ) → i < n
+pub newest-line : (ls : List Line) (n t i : ℕ) → i < n
     → newest_words (first_lines n ls) t (8 * (i + 1))
     ≡ newest_words (first_lines n ls) t (8 * i) ++ newest_in_line t i (line_at ls i).holder (line_at ls i).states 8
 unfolding newest_words newest_in_line

@@ -1,28 +1,21 @@
--- The lines of a state, by their arrays, as a list.
-use Rattle.std.specs.Prelude.{ℕ, false, List, get_or, set, replicate}
+-- The lines of a state, and the first of them.
+use Rattle.std.specs.Prelude.{ℕ, false, List, get_or, replicate}
 use Rattle.parts.specs.declared.Line.{Line}
-use Rattle.parts.specs.FreeLine.{nobody}
+use Rattle.parts.specs.FreeLine.{free_line}
 use Rattle.parts.specs.Listed.{listed}
-use Rattle.lines.specs.declared.Lines.{Lines}
+
+-- a line of zeros
+abbrev pub no_line : Line
+no_line = record { holder = 0; dirty = false; states = 0 }
 
 -- line i; past the last place a line of zeros
-abbrev pub line_at : Lines → ℕ → Line
-line_at ls i =
-    record { holder = get_or ls.holders i 0; dirty = get_or ls.dirty i false; states = get_or ls.states i 0 }
+abbrev pub line_at : List Line → ℕ → Line
+line_at ls i = get_or ls i no_line
 
 -- the first n lines
-abbrev pub first_lines : ℕ → Lines → List Line
+abbrev pub first_lines : ℕ → List Line → List Line
 first_lines n ls = listed n (line_at ls)
 
 -- each line free
-abbrev pub free_lines : Lines
-free_lines = record { holders = replicate 64 nobody; dirty = replicate 64 false; states = replicate 64 0 }
-
--- line i replaced; past the last place nothing is
-abbrev pub put_line : Lines → ℕ → Line → Lines
-put_line ls i l =
-    record {
-      holders = set ls.holders i l.holder;
-      dirty = set ls.dirty i l.dirty;
-      states = set ls.states i l.states;
-    }
+abbrev pub free_lines : List Line
+free_lines = replicate 64 free_line

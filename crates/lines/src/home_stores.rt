@@ -5,22 +5,18 @@ ghost use Rattle.parts.specs.States.{state_at, Dirty};
 ghost use Rattle.model.specs.Lists.{any, up_to};
 ghost use Rattle.lines.specs.Walks.{line_stores};
 
-use crate::DIRTY;
+use crate::state_at;
+use parts::WordState;
 
 // A word of the line is Dirty, by the line's states.
 pub fn has_dirty(states: u16) -> bool
     ensures { result ≡ any (λ j. eqb (state_at states j) Dirty) (up_to 8) }
 {
-    let mut found = false;
-    let mut word = 0;
-    while word < 8 {
-        match crate::state_at(states, word) {
-            DIRTY => found = true,
-            _ => {}
-        }
-        word += 1;
-    }
-    found
+    (0..8).any(
+        |j| -> bool
+            ensures { result ≡ eqb (state_at states j) Dirty }
+        { state_at(states, j) == WordState::Dirty },
+    )
 }
 
 // Stores a line's working words home under the supply. Hands back what is left of it.
@@ -32,11 +28,9 @@ pub fn store_line(home: &mut [u64], working: &[u64], line: usize, supply: u64) -
         return supply;
     }
     let mut left = supply;
-    let mut j = 0;
-    while j < 8 {
+    for j in 0..8 {
         let at = 8 * line + j;
         left = log_region::store(home, at, working[at], left);
-        j += 1;
     }
     left
 }

@@ -1,5 +1,5 @@
 -- Records appended to a log one after another under one supply.
-use Prim.Native.Nat.{ℕ, ◌+◌, ◌-◌}
+use Prim.Native.Nat.{ℕ, ◌+◌, ◌-◌, min}
 use mathlib.Core.Path.{◌≡◌, refl, sym, ap, ap₂, ◌∙◌}
 use mathlib.Core.List.{List, [], ◌∷◌, ◌++◌}
 use mathlib.Core.Bool.{Bool, true, ◌||◌}
@@ -14,7 +14,7 @@ use Rattle.log_region.specs.Stores.{Store, stored_under}
 use Rattle.log_region.specs.Region.{numbers, slots_for, slots_of, record_stores, records_stores}
 use Rattle.log_region.specs.Appended.{Appended, Progressed}
 use Rattle.log_region.proofs.Stored.{length-stored, under-append, under_none}
-use Rattle.log_region.proofs.Appending.{records-none, records-one, records-append, records-beyond}
+use Rattle.log_region.proofs.Appending.{record-beyond, records-none, records-one, records-append, records-beyond}
 
 -- a log keeps its length
 pub appended-length : {c n rest : ℕ} {before after : List ℕ} {rs : List Record} → Appended c before n rs after rest → length after ≡ length before
@@ -62,6 +62,19 @@ appended_then {c} {n} {k} {rest} {before} {between} {after} rs ss first second =
       left = rw e (omega arith);
       log = rw e (log ∙ ap₂ (λ (j : ℕ) (x : List ℕ). stored_under j x ys) k-left first.log ∙ sym (under-append c before xs ys));
     }
+
+-- and one record more under a number that is that of its turn, or like it past the last record's
+pub appended_more : {c n k rest : ℕ} {before between after : List ℕ} (m : ℕ) (rs : List Record) (r : Record) → Appended c before n rs between k
+    → min numbers m ≡ min numbers (n + length rs) → rest ≡ k - length (record_stores (slots_of between) m r)
+    → after ≡ stored_under k between (record_stores (slots_of between) m r) → Appended c before n (rs ++ (r ∷ [])) after rest
+appended_more {c} {n} {k} {rest} {before} {between} {after} m rs r done turn left log =
+    let l : ℕ = slots_of between in
+    let same : record_stores l m r ≡ record_stores l (n + length rs) r =
+    elim (dec_lt m numbers) [
+      | yes p ↦ let e : m ≡ n + length rs = omega arith in rw e
+      | no q ↦ rw (record-beyond l m r (omega arith), record-beyond l (n + length rs) r (omega arith))
+    ] in
+    appended_then rs (r ∷ []) done (appended_one r (rw same at left) (rw same at log))
 
 -- The same with the number of the next record.
 

@@ -20,7 +20,7 @@ use Rattle.log_region.proofs.Numbers.{slot_apart, place-fits}
 use Rattle.log_region.proofs.Holding.{every_append, torn-same}
 
 -- where there are slots, a number in use gets the stores of its slot
-stores-of : (l n : ℕ) (r : Record) → 0 < l → n < numbers → record_stores l n r ≡ shifted (place_of l n) (slot_stores (torn_bit l n) r)
+pub stores-of : (l n : ℕ) (r : Record) → 0 < l → n < numbers → record_stores l n r ≡ shifted (place_of l n) (slot_stores (torn_bit l n) r)
 unfolding record_stores
 stores-of l n r some below = rw (lt-ltb 0 l some, lt-ltb n numbers below)
 
@@ -55,12 +55,16 @@ size-of-records l n [] some below = refl
 size-of-records l n (r ∷ rs) some below =
     rw length-append (omega (arith, size-of-record l n r some (omega arith), size-of-records l (n + 1) rs some (omega arith)))
 
--- numbers past the last record's take none
+-- a number past the last record's takes none
+pub record-beyond : (l n : ℕ) (r : Record) → numbers ≤ n → record_stores l n r ≡ []
+unfolding record_stores
+record-beyond l n r past = rw (le-ltb n numbers past, and-false)
+
+-- and so do several
 pub records-beyond : (l n : ℕ) (rs : List Record) → numbers ≤ n → records_stores l n rs ≡ []
-unfolding record_stores records_stores
+unfolding records_stores
 records-beyond l n [] past = refl
-records-beyond l n (r ∷ rs) past =
-    rw (le-ltb n numbers past, and-false) (records-beyond l (n + 1) rs (omega arith))
+records-beyond l n (r ∷ rs) past = rw (record-beyond l n r past) (records-beyond l (n + 1) rs (omega arith))
 
 -- a store to a slot leaves the others
 slot-other : (l n m k v : ℕ) (log : List ℕ) → k < 3 → (m % l ≡ n % l → ⊥) → slot_at l (set log (place_of l n + k) v) m ≡ slot_at l log m

@@ -8,8 +8,7 @@ use borrow.Author.Tests.{lt-ltb, le-ltb}
 use lib.Dec.{eqb}
 use Rattle.log_region.specs.declared.Record.{Record}
 use Rattle.log_region.specs.declared.Record.TheVariants.{UndoRedo, Redo, Commit}
-use Rattle.log_region.specs.declared.Reading.{Reading}
-use Rattle.log_region.specs.declared.Reading.TheVariants.{Good, Bad}
+use Rattle.std.specs.Prelude.{Option, Some, None}
 use Rattle.log_region.specs.Layout.{type_of, thread_of, word_of, undo_of, redo_of, header_of, word_in, thread_in, type_in, torn_in, rest_in, good_if, of_type, decoded}
 use Rattle.log_region.specs.Holding.{Valid}
 
@@ -36,26 +35,26 @@ pub torn-back : (torn : ℕ) (r : Record) → torn < 2 → thread_of r < 8 → w
 torn-back torn r bit thread word = (fields torn r bit thread word).bit
 
 -- the parts of a record make it up again
-of-type : (r : Record) → of_type (type_of r) (thread_of r) (word_of r) (undo_of r) (redo_of r) ≡ Good r
+of-type : (r : Record) → of_type (type_of r) (thread_of r) (word_of r) (undo_of r) (redo_of r) ≡ Some r
 of-type (UndoRedo t w u d) = refl
 of-type (Redo t w d) = refl
 of-type (Commit t) = refl
 
 -- decoding what was encoded gives the record back
 pub decode-back : (words torn : ℕ) (r : Record) → words ≤ 2 ^ 48 → torn < 2 → Valid words r
-    → decoded words (undo_of r) (redo_of r) (header_of torn r) ≡ Good r
+    → decoded words (undo_of r) (redo_of r) (header_of torn r) ≡ Some r
 unfolding decoded
 decode-back words torn r narrow bit valid =
     let f : Fields (header_of torn r) torn r = fields torn r bit valid.thread (omega arith) in
     simp (f.thread, f.word, f.type, f.rest, lt-ltb (thread_of r) 8 valid.thread, lt-ltb (word_of r) words valid.word) (of-type r)
 
 -- a reading is bad or of a valid record
-abbrev pub BadOrValid : ℕ → Reading → Type 0
-BadOrValid words (Good r) = Valid words r
-BadOrValid words Bad = Unit {0}
+abbrev pub BadOrValid : ℕ → Option Record → Type 0
+BadOrValid words (Some r) = Valid words r
+BadOrValid words None = Unit {0}
 
 -- and so is one that hangs on a test
-pub valid-if : (words : ℕ) (t : Bool) (x : Reading) → BadOrValid words x → BadOrValid words (cond t x Bad)
+pub valid-if : (words : ℕ) (t : Bool) (x : Option Record) → BadOrValid words x → BadOrValid words (cond t x None)
 valid-if words true x v = v
 valid-if words false x v = tt
 

@@ -13,7 +13,7 @@ use lib.ListN.{length, drop, drop_of_length-le}
 use lib.Seq.{drop-cons}
 use Rattle.log_region.specs.declared.Record.{Record}
 use Rattle.log_region.specs.declared.Record.TheVariants.{Commit}
-use Rattle.log_region.specs.declared.Reading.TheVariants.{Good}
+use Rattle.std.specs.Prelude.{Some}
 use Rattle.log_region.specs.Layout.{torn_bit}
 use Rattle.log_region.specs.Region.{numbers, is_written, read_back, searched, tail_of, read_from, records_of}
 use Rattle.log_region.specs.Holding.{record_at, torn_at, Holds}
@@ -54,14 +54,14 @@ module _ {words l head : ℕ} {log : List ℕ} {rs : List Record} (holds : Holds
   tail-found = rw (slots-of holds, holds.first) (ap (searched l log) (sym (add-zero head)) ∙ search-on l 0 (omega arith) (omega arith))
 
   -- each record kept is read back
-  pub read_one : (i : ℕ) → i < length rs → read_back words log (head + i) ≡ Good (record_at rs i)
+  pub read_one : (i : ℕ) → i < length rs → read_back words log (head + i) ≡ Some (record_at rs i)
   unfolding read_back
   read_one i h =
       rw (slots-of holds, lt-ltb 0 l (omega arith), holds.kept i h)
       (decode-back words (torn_bit l (head + i)) (record_at rs i) holds.narrow (torn-small l (head + i)) (valid-at holds i h))
 
   -- and so are those from any one on
-  pub read-on : (k i : ℕ) → i + k ≡ length rs → read_from k words log (head + i) ≡ map Good (drop i rs)
+  pub read-on : (k i : ℕ) → i + k ≡ length rs → read_from k words log (head + i) ≡ map Some (drop i rs)
   unfolding read_from
   read-on zero i all = rw (drop_of_length-le rs {i = i} (omega arith))
   read-on (suc k) i all =
@@ -69,6 +69,6 @@ module _ {words l head : ℕ} {log : List ℕ} {rs : List Record} (holds : Holds
       rw (read_one i h, add_assoc head i 1, read-on k (i + 1) (omega arith), drop-cons rs i (Commit 0) h, add-one)
 
   -- all that is read back is the list held
-  pub read_all : records_of words log ≡ map Good rs
+  pub read_all : records_of words log ≡ map Some rs
   read_all =
       rw (tail-found, holds.first, add-sub_cancel_left) (ap (read_from (length rs) words log) (sym (add-zero head)) ∙ read-on (length rs) 0 (omega arith))

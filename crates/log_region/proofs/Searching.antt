@@ -10,8 +10,7 @@ use borrow.Author.Tests.{le-ltb}
 use lib.Dec.{eqb, ltb}
 use lib.ListN.{length, get_or, take, drop}
 use Rattle.log_region.specs.declared.Record.{Record}
-use Rattle.log_region.specs.declared.Reading.{Reading}
-use Rattle.log_region.specs.declared.Reading.TheVariants.{Good}
+use Rattle.std.specs.Prelude.{Option, Some}
 use Rattle.log_region.specs.Layout.{decoded, decoded_slot}
 use Rattle.log_region.specs.Region.{numbers, slots_of, place_of, is_written, read_back, searched, read_from}
 use Rattle.log_region.specs.Holding.{Valid}
@@ -55,10 +54,10 @@ unfolding read_from
 read-last zero words log n = rw add-zero
 read-last (suc k) words log n =
     let e : n + 1 + k ≡ n + suc k = omega arith in
-    ap (λ (xs : List Reading). read_back words log n ∷ xs) (read-last k words log (n + 1) ∙ rw e)
+    ap (λ (xs : List (Option Record)). read_back words log n ∷ xs) (read-last k words log (n + 1) ∙ rw e)
 
 -- a record that is read back is valid
-pub read-valid : (words : ℕ) (log : List ℕ) (n : ℕ) (r : Record) → read_back words log n ≡ Good r → Valid words r
+pub read-valid : (words : ℕ) (log : List ℕ) (n : ℕ) (r : Record) → read_back words log n ≡ Some r → Valid words r
 unfolding read_back
 read-valid words log n r e =
     let slot : List ℕ = take 3 (drop (place_of (slots_of log) n) log) in

@@ -1,12 +1,11 @@
--- The size of a log with slots, and which numbers the code turns away.
-use Prim.Native.Nat.{ℕ, zero, suc, ◌+◌, ◌*◌, ◌%◌, ◌/◌, ◌≤◌, ◌<◌}
-use native.Mathlib.Decide.{dec_lt}
+-- The size of a log with slots.
+use Prim.Native.Nat.{ℕ, ◌+◌, ◌*◌, ◌%◌, ◌/◌, ◌≤◌, ◌<◌}
 use native.Mathlib.Omega.{arith}
-use mathlib.Core.Bool.{Bool, true, false, cond, ◌&&◌, ◌||◌, not, true≢false}
+use mathlib.Core.Bool.{Bool, true, false, cond, ◌&&◌}
 use mathlib.Core.Path.{◌≡◌, refl}
-use lib.Dec.{eqb, ltb, leb}
-use borrow.Author.Tests.{leb-true, eqb-true, lt-ltb, le-ltb, le-leb, lt-leb, ne_eqb}
-use Rattle.log_region.specs.Region.{numbers, slots_for}
+use lib.Dec.{eqb, leb}
+use borrow.Author.Tests.{leb-true, eqb-true}
+use Rattle.log_region.specs.Region.{slots_for}
 
 -- n words are a log of l slots
 pub record Sized (n l : ℕ) : Type 0 where
@@ -24,19 +23,3 @@ sized n l e h = go (leb 25 n) (leb n 3073) (eqb (n % 3) 1) refl refl refl e
     go true true false p q r s = let f : ⊥ = omega arith in absurd f
     go true false d p q r s = let f : ⊥ = omega arith in absurd f
     go false b d p q r s = let f : ⊥ = omega arith in absurd f
-
--- the code turns a number away just where the definitions do
-pub turned : (l n : ℕ) → ltb 0 l && ltb n numbers ≡ not (eqb l 0 || leb numbers n)
-turned zero n = refl
-turned (suc l) n =
-    let some : ltb 0 (suc l) ≡ true = lt-ltb 0 (suc l) (omega arith) in
-    let full : eqb (suc l) 0 ≡ false = ne_eqb (suc l) 0 (omega arith) in
-    elim (dec_lt n numbers) [
-      | yes p ↦ simp (some, full, lt-ltb n numbers p, lt-leb numbers n p)
-      | no q ↦ let r : numbers ≤ n = omega arith in simp (some, full, le-ltb n numbers r, le-leb numbers n r)
-    ]
-
--- what it lets pass is a log that has slots
-pub some-slots : (l n : ℕ) → eqb l 0 || leb numbers n ≡ false → 0 < l
-some-slots zero n e = absurd (true≢false e)
-some-slots (suc l) n e = omega arith

@@ -1,10 +1,8 @@
 -- Document 01, "The log record": the three words of a slot, and what reading them back gives.
 -- A header's bits, 0 lowest: 0 to 47 word number; 48 to 55 thread; 56 and 57 type; 58 torn bit; 59 to 63 zero.
-use Rattle.std.specs.Prelude.{ℕ, zero, suc, ◌+◌, ◌-◌, ◌*◌, ◌/◌, ◌%◌, ◌^◌, Bool, true, false, cond, ◌&&◌, List, [], ◌∷◌, eqb, ltb, length, get_or}
+use Rattle.std.specs.Prelude.{ℕ, zero, suc, ◌+◌, ◌-◌, ◌*◌, ◌/◌, ◌%◌, ◌^◌, Bool, true, false, cond, ◌&&◌, List, [], ◌∷◌, eqb, ltb, length, get_or, Option, Some, None}
 use Rattle.log_region.specs.declared.Record.{Record}
 use Rattle.log_region.specs.declared.Record.TheVariants.{UndoRedo, Redo, Commit}
-use Rattle.log_region.specs.declared.Reading.{Reading}
-use Rattle.log_region.specs.declared.Reading.TheVariants.{Good, Bad}
 use Rattle.log_region.specs.Stores.{Store}
 
 -- "type (1 undo+redo, 2 redo, 3 commit)"
@@ -72,23 +70,23 @@ rest_in header = header / 2 ^ 59
 abbrev pub fields_good : ℕ → ℕ → Bool
 fields_good words header = ltb (thread_in header) 8 && (ltb (word_in header) words && eqb (rest_in header) 0)
 
-abbrev pub good_if : Bool → Record → Reading
-good_if true r = Good r
-good_if false r = Bad
+abbrev pub good_if : Bool → Record → Option Record
+good_if true r = Some r
+good_if false r = None
 
 -- the record of a type 0, 1, 2 or 3, its thread and word being good
-abbrev pub of_type : ℕ → ℕ → ℕ → ℕ → ℕ → Reading
-of_type zero thread word undo redo = Bad
-of_type (suc zero) thread word undo redo = Good (UndoRedo thread word undo redo)
+abbrev pub of_type : ℕ → ℕ → ℕ → ℕ → ℕ → Option Record
+of_type zero thread word undo redo = None
+of_type (suc zero) thread word undo redo = Some (UndoRedo thread word undo redo)
 of_type (suc (suc zero)) thread word undo redo = good_if (eqb undo 0) (Redo thread word redo)
 of_type (suc (suc (suc n))) thread word undo redo = good_if (eqb undo 0 && (eqb redo 0 && eqb word 0)) (Commit thread)
 
 -- "A record is bad if its type is 0, its thread above 7, its word number not below W, or a field that must be 0 isn't"
-unfoldable pub decoded : ℕ → ℕ → ℕ → ℕ → Reading
+unfoldable pub decoded : ℕ → ℕ → ℕ → ℕ → Option Record
 decoded words undo redo header =
-    cond (fields_good words header) (of_type (type_in header) (thread_in header) (word_in header) undo redo) Bad
+    cond (fields_good words header) (of_type (type_in header) (thread_in header) (word_in header) undo redo) None
 
 -- "Reading back takes the three words of a slot": any other number of words is no record
-abbrev pub decoded_slot : ℕ → List ℕ → Reading
+abbrev pub decoded_slot : ℕ → List ℕ → Option Record
 decoded_slot words slot =
-    cond (eqb (length slot) 3) (decoded words (get_or slot 0 0) (get_or slot 1 0) (get_or slot 2 0)) Bad
+    cond (eqb (length slot) 3) (decoded words (get_or slot 0 0) (get_or slot 1 0) (get_or slot 2 0)) None

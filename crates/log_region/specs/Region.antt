@@ -1,9 +1,7 @@
 -- Document 01, "The three word buffers", the log: its slots, its head, and the records that it keeps.
 -- A region whose length is not 1+3L, L from 8 to 1,024, has no slots: nothing is stored in it or read from it.
-use Rattle.std.specs.Prelude.{ℕ, zero, suc, ◌+◌, ◌-◌, ◌*◌, ◌/◌, ◌%◌, ◌^◌, Bool, cond, ◌&&◌, List, [], ◌∷◌, ◌++◌, eqb, ltb, leb, length, get_or, take, drop}
+use Rattle.std.specs.Prelude.{ℕ, zero, suc, ◌+◌, ◌-◌, ◌*◌, ◌/◌, ◌%◌, ◌^◌, Bool, cond, ◌&&◌, List, [], ◌∷◌, ◌++◌, eqb, ltb, leb, length, get_or, take, drop, Option, None}
 use Rattle.log_region.specs.declared.Record.{Record}
-use Rattle.log_region.specs.declared.Reading.{Reading}
-use Rattle.log_region.specs.declared.Reading.TheVariants.{Bad}
 use Rattle.log_region.specs.Stores.{Store, shifted}
 use Rattle.log_region.specs.Layout.{torn_bit, torn_in, slot_stores, decoded_slot}
 
@@ -46,9 +44,9 @@ is_written log n =
     (ltb n numbers && eqb (torn_in (get_or log (place_of (slots_of log) n + 2) 0)) (torn_bit (slots_of log) n))
 
 -- record n read back, words being W
-unfoldable pub read_back : ℕ → List ℕ → ℕ → Reading
+unfoldable pub read_back : ℕ → List ℕ → ℕ → Option Record
 read_back words log n =
-    cond (ltb 0 (slots_of log)) (decoded_slot words (take 3 (drop (place_of (slots_of log) n) log))) Bad
+    cond (ltb 0 (slots_of log)) (decoded_slot words (take 3 (drop (place_of (slots_of log) n) log))) None
 
 -- "from the head on while fewer than L are read, the number is below 2^48 and the torn bit is right":
 -- the number of the first record that is not there, from n on, when at most k may be read
@@ -61,10 +59,10 @@ abbrev pub tail_of : List ℕ → ℕ
 tail_of log = searched (slots_of log) log (head_of log)
 
 -- the records numbered n, n+1, .., k of them, each read back
-unfoldable pub read_from : ℕ → ℕ → List ℕ → ℕ → List Reading
+unfoldable pub read_from : ℕ → ℕ → List ℕ → ℕ → List (Option Record)
 read_from zero words log n = []
 read_from (suc k) words log n = read_back words log n ∷ read_from k words log (n + 1)
 
 -- all that a recovery reads: the records from the head to the tail
-abbrev pub records_of : ℕ → List ℕ → List Reading
+abbrev pub records_of : ℕ → List ℕ → List (Option Record)
 records_of words log = read_from (tail_of log - head_of log) words log (head_of log)

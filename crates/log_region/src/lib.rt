@@ -9,8 +9,8 @@ pub use region::{NUMBERS, append, head, is_written, read, set_head, slots};
 pub use slot::store;
 
 // A log record by its type. Every value has a layout; one with a thread above 7 or a word not below W reads back as
-// bad.
-#[derive(Clone, Copy)]
+// bad, that is, as no record.
+#[derive(Clone, Copy, PartialEq, Eq)]
 pub enum Record {
     UndoRedo {
         thread: u8,
@@ -26,11 +26,4 @@ pub enum Record {
     Commit {
         thread: u8,
     },
-}
-
-// What reading the three words of a slot back gives.
-#[derive(Clone, Copy)]
-pub enum Reading {
-    Good(Record),
-    Bad,
 }

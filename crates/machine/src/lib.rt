@@ -2,27 +2,27 @@
 // value. Each hands back what the model's definition of the step gives.
 #![tactic(auto)]
 
-use state::Machine;
+use state::{Machine, Stop};
 
 mod methods;
 
 // The state. The steps themselves are functions of the machine in it, in crate `steps`.
-#[derive(Clone, Copy)]
+#[derive(Clone, Copy, PartialEq, Eq)]
 pub struct State {
     pub machine: Machine,
 }
 
-// What a step hands back: the answer's number, the count left, and the state.
-#[derive(Clone, Copy)]
+// What a step hands back: the answer, the count left, and the state.
+#[derive(Clone, Copy, PartialEq, Eq)]
 pub struct Answer {
-    pub answer: u64,
+    pub answer: Result<(), Stop>,
     pub left: u64,
     pub state: State,
 }
 
-// What begin hands back, which is lent no count: the answer's number, and the state.
-#[derive(Clone, Copy)]
+// What begin hands back, which is lent no count: the answer, and the state.
+#[derive(Clone, Copy, PartialEq, Eq)]
 pub struct Begun {
-    pub answer: u64,
+    pub answer: Result<(), Stop>,
     pub state: State,
 }

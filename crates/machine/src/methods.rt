@@ -1,34 +1,16 @@
 // The methods of the state.
-ghost use Rattle.std.specs.Prelude.{◌≡◌, ℕ, length};
+ghost use Rattle.std.specs.Prelude.{◌≡◌, ℕ, length, OnOk, OnErr};
 ghost use Rattle.log_region.specs.Region.{slots_of};
 ghost use Rattle.model.specs.Machine.{Memory, lost_machine};
 ghost use Rattle.model.specs.Step.{begin, store, log_undo, log_redo, evict, write_back};
 ghost use Rattle.model.specs.Step.{commit, delete_oldest, recover, stepped};
 ghost use Rattle.state.specs.View.{memory};
 ghost use Rattle.machine.specs.Answers.{view, shown, shown_begun, opening};
-ghost use Rattle.machine.specs.Answers.{lost_state, fresh_state, taken_state, HandedBack};
+ghost use Rattle.machine.specs.Answers.{answer_of, lost_state, fresh_state, taken_state, HandedBack};
 
 use crate::{Answer, Begun, State};
 use parts::Step;
-use state::Outcome;
-
-// What a step hands back, with the state around the machine.
-fn answer(made: Outcome) -> Answer
-    ensures { result ≡ record {
-      answer = made.answer;
-      left = made.left;
-      state = record {
-        machine = made.state;
-      };
-    } }
-{
-    let machine = made.state;
-    Answer {
-        answer: made.answer,
-        left: made.left,
-        state: State { machine },
-    }
-}
+use state::{Machine, Made};
 
 impl State {
     // "dark": the state that was lost
@@ -36,13 +18,29 @@ impl State {
         ensures { result ≡ lost_state }
     {
         State {
-            machine: state::lost(),
+            machine: Machine::lost(),
         }
+    }
+
+    // Makes a step given as a value, in place.
+    pub fn make(
+        &mut self,
+        step: Step,
+        home: &mut [u64],
+        working: &mut [u64],
+        log: &mut [u64],
+        supply: u64,
+    ) -> Made
+        ensures log_after { shown (answer_of result self.new) home.new working.new log.new
+            ≡ stepped step supply (view self.old) (memory home.old working.old log.old) }
+        ensures handed_back { HandedBack (taken_state step self.old) (answer_of result self.new) }
+    {
+        steps::perform(&mut self.machine, step, home, working, log, supply)
     }
 
     // Makes a step given as a value.
     pub fn step(
-        self,
+        mut self,
         step: Step,
         home: &mut [u64],
         working: &mut [u64],
@@ -53,25 +51,31 @@ impl State {
             ≡ stepped step supply (view self) (memory home.old working.old log.old) }
         ensures handed_back { HandedBack (taken_state step self) result }
     {
-        let machine = self.machine;
-        answer(steps::perform(machine, step, home, working, log, supply))
+        let Made { answer, left } = self.make(step, home, working, log, supply);
+        Answer {
+            answer,
+            left,
+            state: self,
+        }
     }
 
     // Lent no buffers and no count: what it hands back is the same whatever these are.
     pub fn begin(self, thread: u64) -> Begun
         ensures by_index { (c : ℕ) (mem : Memory)
             → shown_begun result ≡ opening (stepped (begin thread) c (view self) mem) }
-        ensures state_value { (result.answer ≡ 0 → ⊥) → result.state ≡ self }
+        ensures kept { OnErr result.answer (result.state ≡ self) }
     {
         let mut home = [0; 0];
         let mut working = [0; 0];
         let mut log = [0; 0];
-        let made = self.step(Step::Begin { thread }, &mut home, &mut working, &mut log, 0);
-        let state = made.state;
-        Begun {
-            answer: made.answer,
-            state,
-        }
+        let Answer { answer, state, .. } = self.step(
+            Step::Begin { thread },
+            &mut home,
+            &mut working,
+            &mut log,
+            0,
+        );
+        Begun { answer, state }
     }
 
     // The value becomes the working one, under a claim of the line.
@@ -198,10 +202,16 @@ impl State {
         ensures log_after { shown result home.new working.new log.new
             ≡ stepped recover supply lost_machine (memory home.old working.old log.old) }
         ensures handed_back { HandedBack lost_state result }
-        ensures state_value { result.answer ≡ 0
-            → result.state ≡ fresh_state (length home.old) (slots_of log.old)
-            result.state.machine.tail }
+        ensures state_value { OnOk result.answer
+            (result.state ≡ fresh_state (length home.old) (slots_of log.old) result.state.machine.tail) }
     {
-        answer(recovery::recover(home, working, log, supply))
+        let made = recovery::recover(home, working, log, supply);
+        Answer {
+            answer: made.answer,
+            left: made.left,
+            state: State {
+                machine: made.state,
+            },
+        }
     }
 }

@@ -6,23 +6,22 @@ use mathlib.Core.List.{List, [], ◌∷◌}
 use lib.Dec.{eqb}
 use Rattle.log_region.specs.declared.Record.{Record}
 use Rattle.log_region.specs.declared.Record.TheVariants.{Commit}
-use Rattle.log_region.specs.declared.Reading.{Reading}
-use Rattle.log_region.specs.declared.Reading.TheVariants.{Good, Bad}
+use Rattle.std.specs.Prelude.{Option, Some, None}
 use Rattle.log_region.specs.Region.{read_back, read_from}
 use Rattle.log_region.proofs.Searching.{read_none, read_next}
 use Rattle.model.specs.Lists.{any}
 use Rattle.model.specs.Readings.{records, is_commit, closed, closes}
 
 -- a commit that is read
-pub commit-read : (t of : ℕ) (r : Record) (x : Reading) → x ≡ Good r → r ≡ Commit of → eqb of t ≡ closes t x
-commit-read t of r x e f = sym (ap (closes t) (e ∙ ap Good f))
+pub commit-read : (t of : ℕ) (r : Record) (x : Option Record) → x ≡ Some r → r ≡ Commit of → eqb of t ≡ closes t x
+commit-read t of r x e f = sym (ap (closes t) (e ∙ ap Some f))
 
 -- a thread's records are closed by a commit among those read
-pub closed-read : (t : ℕ) (xs : List Reading) → closed t (records xs) ≡ any (closes t) xs
+pub closed-read : (t : ℕ) (xs : List (Option Record)) → closed t (records xs) ≡ any (closes t) xs
 unfolding any records
 closed-read t [] = refl
-closed-read t (Good r ∷ xs) = ap (λ (b : Bool). is_commit t r || b) (closed-read t xs)
-closed-read t (Bad ∷ xs) = closed-read t xs
+closed-read t (Some r ∷ xs) = ap (λ (b : Bool). is_commit t r || b) (closed-read t xs)
+closed-read t (None ∷ xs) = closed-read t xs
 
 module _ (t words : ℕ) (log : List ℕ) (from to : ℕ) where
   -- no record closes where there are none

@@ -12,7 +12,7 @@ use lib.ListN.{length, get_or, set, length-set}
 use lib.Seq.{get_or-set_same, get_or-set_other}
 use Rattle.log_region.specs.declared.Record.{Record}
 use Rattle.log_region.specs.declared.Record.TheVariants.{UndoRedo, Redo, Commit}
-use Rattle.log_region.specs.declared.Reading.TheVariants.{Good}
+use Rattle.std.specs.Prelude.{Some}
 use Rattle.log_region.proofs.Holding.{every-at}
 use Rattle.parts.specs.declared.Entry.{Entry}
 use Rattle.parts.specs.declared.Line.{Line}
@@ -78,7 +78,7 @@ calm-store ls v a w e =
     ]
 
 -- a data record that may go is closed, and its line is not dirty
-data-spare : (m : Machine) (t v : ℕ) (rs : List Record) → judged m t v (map Good rs) ≡ Spare → (closed t rs ≡ true) × (dirty_in m.lines v ≡ false)
+data-spare : (m : Machine) (t v : ℕ) (rs : List Record) → judged m t v (map Some rs) ≡ Spare → (closed t rs ≡ true) × (dirty_in m.lines v ≡ false)
 unfolding judged
 data-spare m t v rs e = by (closed t rs) (dirty_in m.lines v) (rw all-records at e)
   where
@@ -87,7 +87,7 @@ data-spare m t v rs e = by (closed t rs) (dirty_in m.lines v) (rw all-records at
     by true true e = absurd (let z : ◌≡◌ {A = ℕ} 0 1 = cc in omega arith)
     by false d e = absurd (let z : ◌≡◌ {A = ℕ} 0 1 = cc in omega arith)
 
-spared : (m : Machine) (r : Record) (rs : List Record) → verdict_on m (Good r) (map Good rs) ≡ Spare → Spared m.lines r rs
+spared : (m : Machine) (r : Record) (rs : List Record) → verdict_on m (Some r) (map Some rs) ≡ Spare → Spared m.lines r rs
 unfolding redos last_to
 spared m (UndoRedo t v u a) rs e =
     let f = data-spare m t v rs e in
@@ -119,7 +119,7 @@ says-spared {r = r} {rs} w dirty spare calm = by dirty calm
 
 -- the oldest record may go
 pub delete-step : (m : Machine) (home working : List ℕ) (b : Book) (r : Record) (rs : List Record) → CoreOf m home working b (r ∷ rs)
-    → verdict_on m (Good r) (map Good rs) ≡ Spare → CoreOf (delete_next m) home working b rs
+    → verdict_on m (Some r) (map Some rs) ≡ Spare → CoreOf (delete_next m) home working b rs
 delete-step m home working b r rs core spare =
     let s : Spared m.lines r rs = spared m r rs spare in
     record {

@@ -11,7 +11,7 @@ use lib.ListN.{length, get_or, length-append, take, length-map, length-replicate
 use lib.Seq.{take-nil, take-length}
 use Rattle.log_region.specs.declared.Record.{Record}
 use Rattle.log_region.specs.declared.Record.TheVariants.{Commit}
-use Rattle.log_region.specs.declared.Reading.TheVariants.{Good}
+use Rattle.std.specs.Prelude.{Some}
 use Rattle.log_region.specs.Region.{read_back, numbers, records_stores, head_stores}
 use Rattle.log_region.specs.Holding.{Holds, Every, Valid}
 use Rattle.log_region.specs.Stores.{Store, stored}
@@ -273,7 +273,7 @@ none-spare Spare none = refl
 module _ {l : ℕ} (m : Machine) (mem : Memory) (b : Book) (world : Live l m mem b) where
   -- the verdict on the oldest of the records r ∷ rs that the log holds
   verdict-held : (r : Record) (rs : List Record) → Holds m.sizes.words l mem.log m.span.head (r ∷ rs)
-      → m.span.tail ≡ m.span.head + length (r ∷ rs) → verdict m mem ≡ Spare → verdict_on m (Good r) (map Good rs) ≡ Spare
+      → m.span.tail ≡ m.span.head + length (r ∷ rs) → verdict m mem ≡ Spare → verdict_on m (Some r) (map Some rs) ≡ Spare
   unfolding verdict
   verdict-held r rs holds tail spare =
       let count : m.span.tail - (m.span.head + 1) ≡ length rs = omega arith in

@@ -10,7 +10,7 @@ use lib.Dec.{eqb}
 use lib.Seq.{append_snoc}
 use Rattle.log_region.specs.declared.Record.{Record}
 use Rattle.log_region.specs.declared.Record.TheVariants.{UndoRedo, Redo, Commit}
-use Rattle.log_region.specs.declared.Reading.TheVariants.{Good}
+use Rattle.std.specs.Prelude.{Some}
 use Rattle.log_region.specs.Stores.{Store}
 use Rattle.log_region.specs.Layout.{thread_of}
 use Rattle.log_region.specs.Holding.{Every, Valid}
@@ -246,7 +246,7 @@ own-free words w t (r ∷ rs) valid own = (
 )
 
 -- what is read back of good records
-pub all-records : (rs : List Record) → records (map Good rs) ≡ rs
+pub all-records : (rs : List Record) → records (map Some rs) ≡ rs
 unfolding records
 all-records [] = refl
 all-records (r ∷ rs) = ap (λ (xs : List Record). r ∷ xs) (all-records rs)

@@ -12,7 +12,7 @@ use borrow.Author.Tests.{le-ltb, eq-eqb, ne_eqb, eqb-false}
 use lib.ListN.{length, get_or, take, length-append, length-map, length-replicate, drop, replicate, take-append-drop, get_or-replicate}
 use lib.Seq.{take_all, drop-length}
 use Rattle.log_region.specs.declared.Record.{Record}
-use Rattle.log_region.specs.declared.Reading.TheVariants.{Good}
+use Rattle.std.specs.Prelude.{Some}
 use Rattle.log_region.specs.Stores.{Store, stored}
 use Rattle.log_region.specs.Region.{numbers, head_stores}
 use Rattle.log_region.specs.Holding.{Every}
@@ -116,7 +116,7 @@ recover-step words l n home b size whole same =
     }
 
 -- good readings
-none-bad : (rs : List Record) → any is_bad (map Good rs) ≡ false
+none-bad : (rs : List Record) → any is_bad (map Some rs) ≡ false
 unfolding any
 none-bad [] = refl
 none-bad (r ∷ rs) = none-bad rs

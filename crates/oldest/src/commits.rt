@@ -1,44 +1,28 @@
-// Whether a thread has a commit among some records of the log.
-ghost use Rattle.std.specs.Prelude.{◌≡◌, ◌-◌};
+// Whether a thread has a commit after the oldest record of the log.
+ghost use Rattle.std.specs.Prelude.{◌≡◌, ◌+◌, ◌-◌};
 ghost use Rattle.log_region.specs.Region.{read_from};
 ghost use Rattle.model.specs.Readings.{records, closed};
 ghost use Rattle.model.specs.Readings.{closes as closes_thread};
 
-use log_region::{Reading, Record};
+use log_region::{Record, read};
+use state::Machine;
 
 // The record is a commit of the thread; a bad one is none.
-fn closes(reading: Reading, thread: u8) -> bool
+fn closes(reading: Option<Record>, thread: u8) -> bool
     ensures { result ≡ closes_thread thread reading }
 {
     match reading {
-        Reading::Good(entry) => match entry {
-            Record::UndoRedo {
-                thread: _,
-                word: _,
-                undo: _,
-                redo: _,
-            } => false,
-            Record::Redo {
-                thread: _,
-                word: _,
-                redo: _,
-            } => false,
-            Record::Commit { thread: of } => of == thread,
-        },
-        Reading::Bad => false,
+        Some(Record::Commit { thread: of }) => of == thread,
+        _ => false,
     }
 }
 
-// Whether the thread has a commit among the records from one number up to another.
-pub(crate) fn has_commit(log: &[u64], from: u64, to: u64, words: u16, thread: u8) -> bool
-    ensures { result ≡ closed thread (records (read_from (to - from) words log.now from)) }
+// Whether the thread has a commit among the records after the oldest.
+pub(crate) fn has_later_commit(state: &Machine, log: &[u64], thread: u8) -> bool
+    ensures { let next = state.now.head + 1 in
+        result ≡ closed thread (records (read_from (state.now.tail - next) state.now.words log.now next)) }
 {
-    let mut number = from;
-    while number < to {
-        if closes(log_region::read(log, number, words), thread) {
-            return true;
-        }
-        number += 1;
-    }
-    false
+    (state.head..state.tail)
+        .skip(1)
+        .any(|number| closes(read(log, number, state.words), thread))
 }

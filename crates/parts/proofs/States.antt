@@ -6,10 +6,15 @@ use native.Mathlib.Nat.{add-mul, mul_assoc, mul_comm, pow-suc, one-le-pow, pow-l
 use native.Mathlib.Nat.{div-eq_of_lt, div-mul-le_self, mod-le, mul-le-mul_right, le_trans}
 use native.Mathlib.Decide.{dec_lt}
 use native.Mathlib.Omega.{arith}
+use denote.Enum.Bare.{sameb}
+use lib.Dec.{eqb}
 use lib.Arith.{digits_div, digits_mod, digits_lt}
 use lib.Pow.{pow-add, shl_exact}
 use lib.Bits.{bit_and, and_mask}
-use Rattle.parts.specs.States.{state_at, with_state}
+use Rattle.parts.specs.contracts.WordState.{the_type}
+use Rattle.parts.specs.declared.WordState.{WordState}
+use Rattle.parts.specs.declared.WordState.TheVariants as word
+use Rattle.parts.specs.States.{bits_of, state_at, with_state}
 
 -- the place of a word is worth something
 field-pos : (j : ℕ) → 0 < 4 ^ j
@@ -118,6 +123,32 @@ put_back st j s h =
 pub state-fitted : (st j s : ℕ) → with_state st j s < 2 ^ 16 → j < 8 → s < 4 → st < 2 ^ 16
 state-fitted st j s b l h =
     subst (λ (n : ℕ). n < 2 ^ 16) (put_back st j s h) (state-fits (with_state st j s) j (state_at st j) b l (state-small st j))
+
+-- so is each state's number
+pub bits-small : (s : WordState) → bits_of s < 4
+bits-small word.Clean = omega arith
+bits-small word.Dirty = omega arith
+bits-small word.UrLog = omega arith
+bits-small word.ULog = omega arith
+
+-- two states compared, by their numbers
+pub state-tested : (s t : WordState) → sameb the_type s t ≡ eqb (bits_of s) (bits_of t)
+state-tested word.Clean word.Clean = refl
+state-tested word.Clean word.Dirty = refl
+state-tested word.Clean word.UrLog = refl
+state-tested word.Clean word.ULog = refl
+state-tested word.Dirty word.Clean = refl
+state-tested word.Dirty word.Dirty = refl
+state-tested word.Dirty word.UrLog = refl
+state-tested word.Dirty word.ULog = refl
+state-tested word.UrLog word.Clean = refl
+state-tested word.UrLog word.Dirty = refl
+state-tested word.UrLog word.UrLog = refl
+state-tested word.UrLog word.ULog = refl
+state-tested word.ULog word.Clean = refl
+state-tested word.ULog word.Dirty = refl
+state-tested word.ULog word.UrLog = refl
+state-tested word.ULog word.ULog = refl
 
 -- a line of zeros: each word is Clean
 pub state-clean : (j : ℕ) → state_at 0 j ≡ 0

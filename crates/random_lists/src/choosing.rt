@@ -1,167 +1,170 @@
 // The kind of a step and what it is given: parts C and D of "One step".
-use crate::generator::{draw, draw_from, draw_if, raw};
+use crate::disturbing::Disturbance;
+use crate::generator::{Generator, one_of, rest};
 use crate::setup::Plan;
-use crate::tables::{BEGIN, RECOVER, SET_DOWN, SHIFT, STORE, WRITE_HOME, digit, longest, script};
-use crate::wrapping::{MAX, either, minus, one_of, rest, sum};
+use crate::tables::Kind;
+use parts::Step;
 
-// A run of steps of one kind, this step with its kind k, thread t, word or line p, value v and supply count c, and the
-// generator's x.
+// A run of steps of one kind, of which `left` are left.
 #[derive(Clone, Copy)]
 pub struct Run {
-    pub x: u64,
-    pub at: u64,
-    pub kind: u64,
-    pub run: u64,
-    pub opening: bool,
-    pub thread: u64,
-    pub start: u64,
-    pub index: u64,
-    pub k: u64,
-    pub t: u64,
-    pub p: u64,
-    pub v: u64,
-    pub c: u64,
-}
-
-pub(crate) fn no_run() -> Run {
-    Run {
-        x: 0,
-        at: 0,
-        kind: RECOVER,
-        run: 0,
-        opening: false,
-        thread: 0,
-        start: 0,
-        index: 0,
-        k: 0,
-        t: 0,
-        p: 0,
-        v: 0,
-        c: 0,
-    }
+    pub kind: Kind,
+    at: u64,
+    left: u64,
+    opening: bool,
+    thread: u64,
+    start: u64,
+    index: u64,
 }
 
 impl Run {
-    // "A new run", lines 1 to 4
-    fn moved(mut self, plan: Plan, steady: bool) -> Run {
-        let next = (self.at % 16 + 1) % 16;
-        let jumps = draw_if(!steady, self.x, 4, 1);
-        let at = draw_if(jumps.r == 0, jumps.x, 16, next);
-        let moves = draw_if(!steady, at.x, 4, at.r % 8);
-        let thread = draw_if(moves.r == 0, moves.x, plan.threads, self.thread);
-        let start = draw_if(moves.r == 0, thread.x, plan.span, self.start);
-        self.x = start.x;
-        self.at = at.r;
-        self.thread = thread.r;
-        self.start = start.r;
-        self
-    }
-
-    // Lines 5 to 8
-    fn begun(mut self, profile: u64, steady: bool) -> Run {
-        let kind = digit(script(profile), self.at);
-        let most = longest(profile, kind);
-        let half = sum(most, 1) / 2;
-        let run = draw_from(either(steady, half, 1), self.x, either(steady, half, most));
-        let opening = draw(run.x, 16);
-        self.x = opening.x;
-        self.kind = kind;
-        self.run = run.r;
-        self.opening = opening.r != 0;
-        self.index = 0;
-        self
+    // "These variables start so"
+    pub(crate) fn none() -> Run {
+        Run {
+            kind: Kind::Recover,
+            at: 0,
+            left: 0,
+            opening: false,
+            thread: 0,
+            start: 0,
+            index: 0,
+        }
     }
 
     // "A new run"
-    fn renewed(self, plan: Plan) -> Run {
-        let profile = plan.profile;
-        // "steady means that the profile is 3, 5 or 6"
-        let steady = (profile == 3) | ((profile == 5) | (profile == 6));
-        let moved = self.moved(plan, steady);
-        moved.begun(profile, steady)
-    }
-
-    // "Then run becomes run - 1. If kind is 1 and opening: .."
-    fn taken(mut self) -> Run {
-        let begins = (self.kind == STORE) & self.opening;
-        self.run = minus(self.run, 1);
-        self.opening = self.opening & !begins;
-        self.k = either(begins, BEGIN, self.kind);
-        self
-    }
-
-    // "C. Kind of this step (k)." `none` is above 12.
-    pub(crate) fn turned(mut self, x: u64, plan: Plan, forced: bool, case: u64) -> Run {
-        let recovers = draw_if(case <= 12, x, 2, 1);
-        self.x = recovers.x;
-        if forced | (recovers.r == 0) {
-            self.run = 0;
-            self.k = RECOVER;
-            return self;
+    fn renew(&mut self, generator: &mut Generator, plan: &Plan) {
+        let steady = matches!(plan.profile, 3 | 5 | 6);
+        self.at = (self.at % 16 + 1) % 16;
+        if !steady && generator.draw(4) == 0 {
+            self.at = generator.draw(16);
         }
-        if self.run > 0 {
-            return self.taken();
+        let chosen = if steady {
+            self.at % 8
+        } else {
+            generator.draw(4)
+        };
+        if chosen == 0 {
+            self.thread = generator.draw(plan.threads);
+            self.start = generator.draw(plan.span);
         }
-        let renewed = self.renewed(plan);
-        renewed.taken()
+        self.kind = Kind::scripted(plan.profile, self.at);
+        let longest = self.kind.longest(plan.profile);
+        let half = longest.div_ceil(2);
+        self.left = if steady {
+            generator.draw_from(half, half)
+        } else {
+            generator.draw_from(1, longest)
+        };
+        self.opening = generator.draw(16) != 0;
+        self.index = 0;
     }
 
-    // "D. What the step is given."
-    pub(crate) fn given(mut self, plan: Plan) -> Run {
-        let for_t = raw(self.x);
-        let for_p = raw(for_t);
-        let for_v = raw(for_p);
-        let for_c = raw(for_v);
-        let p = place(for_p, plan, self);
-        self.x = for_c;
-        self.t = thread(for_t, self.thread);
-        self.p = p;
-        self.v = value(for_v, plan.values);
-        self.c = count(for_c, plan.small, self.k);
-        self.index = sum(self.index, 1);
-        self
+    // "C. Kind of this step (k)."
+    pub(crate) fn turn(
+        &mut self,
+        generator: &mut Generator,
+        plan: &Plan,
+        disturbance: &Disturbance,
+    ) -> Kind {
+        let low = disturbance.case.is_some_and(|case| case.number <= 12);
+        if disturbance.forced || low && generator.draw(2) == 0 {
+            self.left = 0;
+            return Kind::Recover;
+        }
+        if self.left == 0 {
+            self.renew(generator, plan);
+        }
+        self.left = self.left.saturating_sub(1);
+        if self.kind == Kind::Store && self.opening {
+            self.opening = false;
+            return Kind::Begin;
+        }
+        self.kind
+    }
+
+    // "D. What the step is given.": the step, and its supply count
+    pub(crate) fn give(&mut self, generator: &mut Generator, plan: &Plan, k: Kind) -> (Step, u64) {
+        let t = thread(generator.raw(), self.thread);
+        let p = self.place(generator.raw(), plan, k);
+        let v = value(generator.raw(), plan.values);
+        let c = count(generator.raw(), plan.small, k);
+        self.index = self.index.wrapping_add(1);
+        (step_of(k, t, p, v), c)
+    }
+
+    // "own(j)"
+    fn own(&self, plan: &Plan, j: u64) -> u64 {
+        let turn = j.wrapping_mul(plan.threads);
+        rest(turn.wrapping_add(self.thread), plan.span / 8)
+    }
+
+    // "p"
+    fn place(&self, r: u64, plan: &Plan, k: Kind) -> u64 {
+        let by_line = matches!(k, Kind::SetDown | Kind::WriteHome);
+        let u = if by_line { 8 } else { 1 };
+        let base = plan.base / u;
+        match r % 32 {
+            0 => {
+                let end = plan.w / u;
+                one_of(r >> 16, [end, end.wrapping_add(1), 1 << 61, u64::MAX])
+            }
+            1 | 2 => base.wrapping_add(rest(r >> 16, plan.span / u)),
+            _ if by_line => {
+                let j = (self.start / 8).wrapping_add(self.index);
+                base.wrapping_add(self.own(plan, j))
+            }
+            _ => {
+                let next = self.start.wrapping_add(self.index);
+                let line = self.own(plan, next / 8).wrapping_mul(8);
+                base.wrapping_add(line).wrapping_add(next % 8)
+            }
+        }
     }
 }
 
 // "t"
 fn thread(r: u64, thread: u64) -> u64 {
-    let wrong = one_of(r >> 16, 8, 9, 256, MAX);
-    either(r % 32 == 0, wrong, thread)
-}
-
-// "own(j)"
-fn own(plan: Plan, thread: u64, j: u64) -> u64 {
-    let turn = (j % 65536) * (plan.threads % 65536);
-    rest(sum(turn, thread), plan.span / 8)
-}
-
-// "otherwise": p from the base on, a line or a word
-fn own_place(plan: Plan, run: Run, by_line: bool) -> u64 {
-    let next = sum(run.start, run.index);
-    let j = either(by_line, sum(run.start / 8, run.index), next / 8);
-    let line = own(plan, run.thread, j) % 64;
-    either(by_line, line, 8 * line + next % 8)
-}
-
-// "p": W/u, base/u and span/u are shifts by s.
-fn place(r: u64, plan: Plan, run: Run) -> u64 {
-    let by_line = (run.k == SET_DOWN) | (run.k == WRITE_HOME);
-    let s = either(by_line, 3, 0) % 4;
-    let end = plan.w >> s;
-    let wrong = one_of(r >> 16, end, sum(end, 1), 1 << 61, MAX);
-    let any = rest(r >> 16, plan.span >> s);
-    let offset = either(r % 32 <= 2, any, own_place(plan, run, by_line));
-    either(r % 32 == 0, wrong, sum(plan.base >> s, offset))
+    if r % 32 == 0 {
+        one_of(r >> 16, [8, 9, 256, u64::MAX])
+    } else {
+        thread
+    }
 }
 
 // "v"
 fn value(r: u64, values: u64) -> u64 {
-    either(r % 16 == 0, r, rest(r >> 16, values))
+    if r % 16 == 0 {
+        r
+    } else {
+        rest(r >> 16, values)
+    }
 }
 
-// "c". Where the odds come to 0, o is 1, and r % o is 0, as rest(r, 0) is.
-fn count(r: u64, small: u64, k: u64) -> u64 {
-    let o = small >> (digit(SHIFT, k) % 16);
-    let few = rest(r >> 24, 1 << ((r >> 16) % 8));
-    either(rest(r, o) == 0, few, MAX)
+// "c"
+fn count(r: u64, small: u64, k: Kind) -> u64 {
+    let o = small.wrapping_shr(k.shift()).max(1);
+    if r % o == 0 {
+        rest(r >> 24, 1 << ((r >> 16) % 8))
+    } else {
+        u64::MAX
+    }
+}
+
+// The step of kind k, with thread t, word or line p and value v, "as far as the kind takes them"
+fn step_of(k: Kind, t: u64, p: u64, v: u64) -> Step {
+    match k {
+        Kind::Begin => Step::Begin { thread: t },
+        Kind::Store => Step::Store {
+            thread: t,
+            word: p,
+            value: v,
+        },
+        Kind::LogUndo => Step::LogUndo,
+        Kind::LogRedo => Step::LogRedo,
+        Kind::SetDown => Step::Evict { line: p },
+        Kind::WriteHome => Step::WriteBack { line: p },
+        Kind::Commit => Step::Commit { thread: t },
+        Kind::Delete => Step::DeleteOldest,
+        Kind::Recover => Step::Recover,
+    }
 }

@@ -1,59 +1,52 @@
-// "The generator" has one word x. Each function takes x, and hands back the new one.
-use crate::wrapping::{one_of, rest, sum};
+// "The generator", and the arithmetic of its text: "`+` and `<<` drop what goes beyond bit 63".
 
 pub const GOLD: u64 = 0x9e37_79b9_7f4a_7c15;
 
-// The new x, and the result r
+// a % k, and 0 where k is 0
+pub(crate) fn rest(a: u64, k: u64) -> u64 {
+    a.checked_rem(k).unwrap_or(0)
+}
+
+// [a, b, c, d][i % 4]
+pub(crate) fn one_of(i: u64, choices: [u64; 4]) -> u64 {
+    choices[(i % 4) as usize]
+}
+
+// "It has one word x."
 #[derive(Clone, Copy)]
-pub struct Drawn {
-    pub x: u64,
-    pub r: u64,
+pub struct Generator {
+    x: u64,
 }
 
-// The result is the new x.
-pub(crate) fn raw(x: u64) -> u64 {
-    let a = x ^ (x << 13);
-    let b = a ^ (a >> 7);
-    b ^ (b << 17)
-}
-
-// least + draw(k)
-pub(crate) fn draw_from(least: u64, x: u64, k: u64) -> Drawn {
-    let next = raw(x);
-    Drawn {
-        x: next,
-        r: sum(least, rest(next >> 16, k)),
+impl Generator {
+    // "For list n, x starts as GOLD + n; then `raw` is called 16 times and the results are dropped."
+    pub(crate) fn seeded(n: u64) -> Generator {
+        let mut generator = Generator {
+            x: GOLD.wrapping_add(n),
+        };
+        for _ in 0..16 {
+            generator.raw();
+        }
+        generator
     }
-}
 
-pub(crate) fn draw(x: u64, k: u64) -> Drawn {
-    draw_from(0, x, k)
-}
-
-// draw(k) where `drawn`; otherwise nothing is drawn, and the result is `other`.
-pub(crate) fn draw_if(drawn: bool, x: u64, k: u64, other: u64) -> Drawn {
-    if drawn {
-        draw(x, k)
-    } else {
-        Drawn { x, r: other }
+    pub(crate) fn raw(&mut self) -> u64 {
+        self.x ^= self.x << 13;
+        self.x ^= self.x >> 7;
+        self.x ^= self.x << 17;
+        self.x
     }
-}
 
-pub(crate) fn pick(x: u64, a: u64, b: u64, c: u64, d: u64) -> Drawn {
-    let next = raw(x);
-    Drawn {
-        x: next,
-        r: one_of(next >> 16, a, b, c, d),
+    pub(crate) fn draw(&mut self, k: u64) -> u64 {
+        rest(self.raw() >> 16, k)
     }
-}
 
-// "For list n, x starts as GOLD + n; then `raw` is called 16 times and the results are dropped."
-pub(crate) fn seeded(n: u64) -> u64 {
-    let mut x = sum(GOLD, n);
-    let mut i = 0u64;
-    while i < 16 {
-        x = raw(x);
-        i += 1;
+    // least + draw(k)
+    pub(crate) fn draw_from(&mut self, least: u64, k: u64) -> u64 {
+        least.wrapping_add(self.draw(k))
     }
-    x
+
+    pub(crate) fn pick(&mut self, choices: [u64; 4]) -> u64 {
+        one_of(self.raw() >> 16, choices)
+    }
 }

@@ -4,45 +4,42 @@
 
 mod changing;
 mod choosing;
-mod digest;
 mod disturbing;
 mod generator;
 mod list_steps;
-mod printing;
 mod setup;
 mod tables;
-mod the_step;
-mod wrapping;
 
-use list_steps::Totals;
+use list_steps::{Digest, Totals, digest_of};
 use std::io;
-use std::io::Print;
+use std::ops::Range;
 
 // "The digest of 100 lists is one more fold: starting with 0, the digests of lists 100i, 100i + 1, .. are folded in."
-fn hundred(rt: &impl Print, i: u64, before: Totals) -> io::Result<Totals> {
-    let mut totals = before;
-    totals.digest = 0;
-    let mut j = 0;
-    while j < 100 {
-        totals = list_steps::with_list(wrapping::sum(i, j), totals);
-        j += 1;
+fn hundred(lists: Range<u64>, totals: &mut Totals) -> u64 {
+    let mut digest = Digest { value: 0 };
+    for n in lists {
+        digest.fold(digest_of(n, totals));
     }
-    printing::digest(rt, totals.digest)?;
-    Ok(totals)
+    digest.value
+}
+
+// "a line `answer A N`"
+fn answers(rt: &impl Print, counts: &[u64; 19]) -> io::Result<()> {
+    for (a, n) in counts[..18].iter().enumerate() {
+        println!(rt; "answer {a} {n}")?;
+    }
+    println!(rt; "answer 255 {}", counts[18])
 }
 
 fn main(rt: HostRuntime) -> io::Result<()> {
     let mut totals = Totals {
-        digest: 0,
         steps: 0,
         counts: [0; 19],
     };
-    let mut i = 0;
-    while i < 36 {
-        totals = hundred(&rt, 100 * i, totals)?;
-        i += 1;
+    for i in 0..36 {
+        let digest = hundred(100 * i..100 * i + 100, &mut totals);
+        println!(rt; "{digest:016x}")?;
     }
-    let counts = totals.counts;
-    printing::answers(&rt, counts)?;
-    printing::total(&rt, totals.steps)
+    answers(&rt, &totals.counts)?;
+    println!(rt; "lists 3600, steps {}", totals.steps)
 }

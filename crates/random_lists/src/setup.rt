@@ -1,12 +1,12 @@
 // "Setting up a list"
-use crate::generator::{draw, draw_from, pick, raw};
-use crate::wrapping::{either, minus, nth, rest, sum};
+ghost use Rattle.std.specs.Prelude.{◌≤◌};
+
+use crate::generator::Generator;
 use log_region::NUMBERS;
 
-// What is drawn for a list, and the generator's x after it. `w` and `l` are W and L.
+// What is drawn for a list. `w` and `l` are W and L.
 #[derive(Clone, Copy)]
 pub struct Plan {
-    pub x: u64,
     pub w: u64,
     pub l: u64,
     pub threads: u64,
@@ -22,117 +22,144 @@ pub struct Plan {
     pub head: u64,
 }
 
-// Lines 1 to 10
-fn drawn(x: u64) -> Plan {
-    let w = pick(x, 8, 16, 64, 512);
-    let l = pick(w.x, 8, 9, 40, 1024);
-    let most = draw_from(1, l.x, 8);
-    let threads = draw_from(1, most.x, most.r);
-    let profile = draw(threads.x, 4);
-    let steps = draw_from(40, profile.x, 61);
-    let span = pick(steps.x, 8, 16, 64, 512);
-    let small = pick(span.x, 16, 32, 128, 512);
-    let odds = pick(small.x, 16, 32, 128, 1024);
-    let values = pick(odds.x, 2, 4, 4, 64);
-    Plan {
-        x: values.x,
-        w: w.r,
-        l: l.r,
-        threads: threads.r,
-        profile: profile.r,
-        steps: steps.r,
-        span: span.r,
-        small: small.r,
-        odds: odds.r,
-        values: values.r,
-        first: 0,
-        cases: 30,
-        base: 0,
-        head: 0,
-    }
-}
-
-// The row of line 11's table that fits n, from 0; 5 where none does
-fn row_of(n: u64) -> u64 {
-    if n % 200 == 199 {
-        return 0;
-    }
-    match n % 16 {
-        15 => 1,
-        7 => 2,
-        3 => 3,
-        11 => 4,
-        _ => 5,
-    }
-}
-
 impl Plan {
-    // Line 11
-    fn replaced(mut self, row: u64) -> Plan {
-        let l = self.l;
-        let span = self.span;
-        let least = nth(row, 0, 64, 64, 16, 0, 0);
-        self.w = either(self.w < least, least, self.w);
-        self.span = nth(row, span, 512, 512, 16, span, span);
-        self.l = nth(row, 1024, either(l == 40, 40, 1024), 1024, 1024, l, l);
-        self.profile = nth(row, 4, 3, 5, 6, 7, self.profile);
-        self.steps = nth(row, 2500, 300, 600, 250, 150, self.steps);
-        self.small = nth(row, 4096, 128, 512, 512, 512, self.small);
-        self.odds = nth(row, 4096, 256, 1024, 8, 4, self.odds);
-        self.first = nth(row, 0, 0, 0, 18, 5, 0);
-        self.cases = nth(row, 30, 30, 30, 12, 8, 30);
-        self
+    // Lines 1 to 10
+    fn drawn(generator: &mut Generator) -> Plan {
+        let w = generator.pick([8, 16, 64, 512]);
+        let l = generator.pick([8, 9, 40, 1024]);
+        let most = generator.draw_from(1, 8);
+        Plan {
+            w,
+            l,
+            threads: generator.draw_from(1, most),
+            profile: generator.draw(4),
+            steps: generator.draw_from(40, 61),
+            span: generator.pick([8, 16, 64, 512]),
+            small: generator.pick([16, 32, 128, 512]),
+            odds: generator.pick([16, 32, 128, 1024]),
+            values: generator.pick([2, 4, 4, 64]),
+            first: 0,
+            cases: 30,
+            base: 0,
+            head: 0,
+        }
+    }
+
+    // Of a row of line 11's table: a least W, and another span and L
+    fn widen(&mut self, least: u64, span: u64, l: u64) {
+        self.w = self.w.max(least);
+        self.span = span;
+        self.l = l;
+    }
+
+    // Of each row
+    fn replace(&mut self, profile: u64, steps: u64, small: u64, odds: u64) {
+        self.profile = profile;
+        self.steps = steps;
+        self.small = small;
+        self.odds = odds;
+    }
+
+    // Of each row of few cases
+    fn keep_cases(&mut self, first: u64, cases: u64) {
+        self.first = first;
+        self.cases = cases;
+    }
+
+    // Line 11: "the first row of this table that fits n"
+    fn fit(&mut self, n: u64) {
+        if n % 200 == 199 {
+            self.l = 1024;
+            self.replace(4, 2500, 4096, 4096);
+            return;
+        }
+        match n % 16 {
+            15 => {
+                self.widen(64, 512, if self.l == 40 { 40 } else { 1024 });
+                self.replace(3, 300, 128, 256);
+            }
+            7 => {
+                self.widen(64, 512, 1024);
+                self.replace(5, 600, 512, 1024);
+            }
+            3 => {
+                self.widen(16, 16, 1024);
+                self.replace(6, 250, 512, 8);
+                self.keep_cases(18, 12);
+            }
+            11 => {
+                self.replace(7, 150, 512, 4);
+                self.keep_cases(5, 8);
+            }
+            _ => {}
+        }
     }
 
     // Lines 12 to 15
-    fn placed(mut self) -> Plan {
-        let l = self.l % 2048;
-        let span = either(self.w < self.span, self.w, self.span);
-        let lines = 1 + span / 8;
-        let high = draw(self.x, 2);
-        let near = draw(high.x, 3 * l);
-        let head = pick(near.x, 0, 0, 5 * l + 3, minus(NUMBERS, near.r));
-        self.span = span;
-        self.threads = either(lines < self.threads, lines, self.threads);
-        self.base = either(high.r == 0, 0, minus(self.w, span));
-        self.head = head.r;
-        self.x = head.x;
-        self
+    fn place(&mut self, generator: &mut Generator) {
+        self.span = self.span.min(self.w);
+        self.threads = self.threads.min(1 + self.span / 8);
+        self.base = generator.draw(2).wrapping_mul(self.w - self.span);
+        let near = NUMBERS.wrapping_sub(generator.draw(self.l.wrapping_mul(3)));
+        let past = self.l.wrapping_mul(5).wrapping_add(3);
+        self.head = generator.pick([0, 0, past, near]);
+    }
+
+    // Lines 1 to 15, of list n
+    pub(crate) fn of_list(n: u64, generator: &mut Generator) -> Plan {
+        let mut plan = Plan::drawn(generator);
+        plan.fit(n);
+        plan.place(generator);
+        plan
+    }
+
+    // W, as the number of words of home and of working
+    pub(crate) fn home_len(&self) -> usize
+        ensures { result ≤ 512 }
+    {
+        (self.w as usize).min(512)
+    }
+
+    // 1 + 3L
+    pub(crate) fn log_len(&self) -> usize
+        ensures { result ≤ 3073 }
+    {
+        1 + 3 * (self.l as usize).min(1024)
+    }
+
+    // "W < 512 and L < 1024"
+    pub(crate) fn is_small(&self) -> bool {
+        self.w < 512 && self.l < 1024
     }
 }
 
-// Lines 1 to 15
-pub(crate) fn planned(n: u64, x: u64) -> Plan {
-    let plan = drawn(x);
-    let replaced = plan.replaced(row_of(n));
-    replaced.placed()
+// Home, working and the log. Of each the first words are in use.
+#[derive(Clone, Copy)]
+pub struct Buffers {
+    pub home: [u64; 512],
+    pub working: [u64; 512],
+    pub log: [u64; 3073],
 }
 
-// Lines 16 and 17: draw(4) each for home, raw each for working. Hands back the new x.
-pub(crate) fn fill(x: u64, w: u64, words: &mut [u64; 512], home: bool) -> u64 {
-    let mut r = x;
-    let mut i = 0;
-    while i < w {
-        r = raw(r);
-        words[(i % 512) as usize] = either(home, (r >> 16) % 4, r);
-        i += 1;
+impl Buffers {
+    // Lines 16 to 18
+    pub(crate) fn filled(plan: &Plan, generator: &mut Generator) -> Buffers {
+        let mut home = [0; 512];
+        let mut working = [0; 512];
+        let mut log = [0; 3073];
+        home[..plan.home_len()].fill_with(|| generator.draw(4));
+        working[..plan.home_len()].fill_with(|| generator.raw());
+        fill_log(&mut log, plan.head, plan.l);
+        Buffers { home, working, log }
     }
-    r
-}
-
-// ((m / L) % 2) << 58
-fn header(m: u64, l: u64) -> u64 {
-    if l == 0 { 0 } else { (m / l % 2) << 58 }
 }
 
 // Line 18
-pub(crate) fn fill_log(head: u64, l: u64, log: &mut [u64; 3073]) {
+fn fill_log(log: &mut [u64; 3073], head: u64, l: u64) {
     log[0] = head;
-    let mut i = 0;
-    while i < l {
-        let m = sum(head, i);
-        let at = 3 + 3 * (rest(m, l) % 1024);
-        log[at as usize] = header(m, l);
-        i += 1;
+    for i in 0..l {
+        let m = head.wrapping_add(i);
+        let at = 3 + 3 * (m % l % 1024);
+        log[at as usize] = (m / l % 2) << 58;
     }
 }

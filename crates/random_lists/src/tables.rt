@@ -1,52 +1,72 @@
 // "The kinds and tables"
-pub const BEGIN: u64 = 0;
 
-pub const STORE: u64 = 1;
-
-pub const LOG_UNDO: u64 = 2;
-
-pub const LOG_REDO: u64 = 3;
-
-pub const SET_DOWN: u64 = 4;
-
-pub const WRITE_HOME: u64 = 5;
-
-pub const COMMIT: u64 = 6;
-
-pub const DELETE: u64 = 7;
-
-pub const RECOVER: u64 = 8;
-
-// "Shift, by kind 0 to 8": a hexadecimal digit each
-pub const SHIFT: u64 = 0x0104_6133_4000_0000;
-
-// The hexadecimal digit of a row at a position from 0 to 15
-pub(crate) fn digit(row: u64, at: u64) -> u64 {
-    (row >> (60 - 4 * (at % 16))) % 16
+#[derive(Clone, Copy, PartialEq, Eq)]
+pub enum Kind {
+    Begin,
+    Store,
+    LogUndo,
+    LogRedo,
+    SetDown,
+    WriteHome,
+    Commit,
+    Delete,
+    Recover,
 }
 
-// "Script, one row for each profile": a hexadecimal digit for each of the positions 0 to 15
-pub(crate) fn script(profile: u64) -> u64 {
-    match profile {
-        0 => 0x1212_4567_0121_4368,
-        1 => 0x1651_7616_5717_2657,
-        2 => 0x1161_2180_1214_6168,
-        3 => 0x1112_4243_1112_4246,
-        4 => 0x1161_6116_1651_1616,
-        5 => 0x1112_2424_1112_4244,
-        6 => 0x1212_4424_1212_4244,
-        _ => 0x1212_4165_7712_1657,
-    }
-}
+// "Script, one row for each profile"
+const SCRIPT: [[u8; 16]; 8] = [
+    [1, 2, 1, 2, 4, 5, 6, 7, 0, 1, 2, 1, 4, 3, 6, 8],
+    [1, 6, 5, 1, 7, 6, 1, 6, 5, 7, 1, 7, 2, 6, 5, 7],
+    [1, 1, 6, 1, 2, 1, 8, 0, 1, 2, 1, 4, 6, 1, 6, 8],
+    [1, 1, 1, 2, 4, 2, 4, 3, 1, 1, 1, 2, 4, 2, 4, 6],
+    [1, 1, 6, 1, 6, 1, 1, 6, 1, 6, 5, 1, 1, 6, 1, 6],
+    [1, 1, 1, 2, 2, 4, 2, 4, 1, 1, 1, 2, 4, 2, 4, 4],
+    [1, 2, 1, 2, 4, 4, 2, 4, 1, 2, 1, 2, 4, 2, 4, 4],
+    [1, 2, 1, 2, 4, 1, 6, 5, 7, 7, 1, 2, 1, 6, 5, 7],
+];
 
 // "Longest, one row for each profile": kinds 0 to 8
-pub(crate) fn longest(profile: u64, kind: u64) -> u64 {
-    let row = match profile {
-        0 | 1 => [1, 8, 4, 3, 3, 4, 1, 8, 1],
-        2 | 4 => [1, 24, 12, 6, 8, 8, 1, 8, 1],
-        3 | 5 => [1, 64, 20, 6, 16, 8, 1, 8, 1],
-        6 => [1, 16, 16, 3, 3, 8, 1, 8, 1],
-        _ => [1, 5, 5, 3, 3, 4, 1, 8, 1],
-    };
-    row[(kind % 9) as usize]
+const LONGEST: [[u8; 9]; 8] = [
+    [1, 8, 4, 3, 3, 4, 1, 8, 1],
+    [1, 8, 4, 3, 3, 4, 1, 8, 1],
+    [1, 24, 12, 6, 8, 8, 1, 8, 1],
+    [1, 64, 20, 6, 16, 8, 1, 8, 1],
+    [1, 24, 12, 6, 8, 8, 1, 8, 1],
+    [1, 64, 20, 6, 16, 8, 1, 8, 1],
+    [1, 16, 16, 3, 3, 8, 1, 8, 1],
+    [1, 5, 5, 3, 3, 4, 1, 8, 1],
+];
+
+// "Shift, by kind 0 to 8"
+const SHIFT: [u32; 9] = [0, 1, 0, 4, 6, 1, 3, 3, 4];
+
+impl Kind {
+    fn numbered(n: u8) -> Kind {
+        match n {
+            0 => Kind::Begin,
+            1 => Kind::Store,
+            2 => Kind::LogUndo,
+            3 => Kind::LogRedo,
+            4 => Kind::SetDown,
+            5 => Kind::WriteHome,
+            6 => Kind::Commit,
+            7 => Kind::Delete,
+            _ => Kind::Recover,
+        }
+    }
+
+    // Script[profile][at]
+    pub(crate) fn scripted(profile: u64, at: u64) -> Kind {
+        Kind::numbered(SCRIPT[(profile % 8) as usize][(at % 16) as usize])
+    }
+
+    // Longest[profile][kind]
+    pub(crate) fn longest(self, profile: u64) -> u64 {
+        u64::from(LONGEST[(profile % 8) as usize][self as usize])
+    }
+
+    // Shift[kind]
+    pub(crate) fn shift(self) -> u32 {
+        SHIFT[self as usize]
+    }
 }

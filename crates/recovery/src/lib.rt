@@ -5,6 +5,5 @@
 mod passes;
 mod reading;
 mod recovering;
-mod replaying;
 
-pub use recovering::recover;
+pub use recovering::{recover, recovered};

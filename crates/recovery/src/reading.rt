@@ -1,66 +1,45 @@
 // The reading of a recovery: every record once, from the head on.
-ghost use Rattle.std.specs.Prelude.{◌≡◌};
-ghost use Rattle.log_region.specs.Region.{read_back};
+ghost use Rattle.std.specs.Prelude.{◌≡◌, true, IfNone, IfSome};
+ghost use Rattle.log_region.specs.Region.{records_of};
+ghost use Rattle.model.specs.Lists.{any};
 ghost use Rattle.model.specs.Readings.{is_bad};
-ghost use Rattle.recovery.specs.Recovering.{commit_noted, Scanned};
+ghost use Rattle.recovery.specs.Recovering.{Scanned};
 
-use log_region::{Reading, Record};
+use log_region::Record;
 
-// What the reading has found: the number of the next record, whether one was bad, and the number of each thread's last
-// commit, or 0.
+// The records of a log on a machine of W words: all from the head up to the tail are good. For each thread there is the
+// number of its last commit, or 0.
 #[derive(Clone, Copy)]
-pub struct Found {
-    pub tail: u64,
-    pub last: [u64; 8],
-    pub bad: bool,
+pub(crate) struct Records<'a> {
+    pub(crate) log: &'a [u64],
+    pub(crate) words: u16,
+    pub(crate) head: u64,
+    pub(crate) tail: u64,
+    pub(crate) last: [u64; 8],
 }
 
-// Reads a record, and notes it if it is a commit. Hands back whether it is bad.
-fn note(last: &mut [u64; 8], log: &[u64], number: u64, words: u16) -> bool
-    ensures value { result ≡ is_bad (read_back words log.now number) }
-    ensures last_after { last.new ≡ commit_noted number (read_back words log.now number) last.old }
+// Every record read, from the head on to the first that is not there; none if one is bad.
+pub(crate) fn scan<'a>(log: &'a [u64], words: u16) -> Option<Records<'a>>
+    ensures none { IfNone result (any is_bad (records_of words log.now) ≡ true) }
+    ensures some { IfSome result (λ found. Scanned words log.now found) }
 {
-    let reading = log_region::read(log, number, words);
-    match reading {
-        Reading::Good(entry) => match entry {
-            Record::UndoRedo {
-                thread: _,
-                word: _,
-                undo: _,
-                redo: _,
-            } => false,
-            Record::Redo {
-                thread: _,
-                word: _,
-                redo: _,
-            } => false,
-            Record::Commit { thread } => {
-                let t = thread as usize;
-                last[t] = number;
-                false
-            }
-        },
-        Reading::Bad => true,
-    }
-}
-
-// Every record read, from the head on to the first that is not there.
-pub(crate) fn scan(log: &[u64], words: u16) -> Found
-    ensures { Scanned words log.now result }
-{
-    let mut tail = log_region::head(log);
-    let mut bad = false;
+    let head = log_region::head(log);
+    let mut tail = head;
     let mut last = [0; 8];
-    let mut left = log_region::slots(log);
-    while (0 < left) & log_region::is_written(log, tail) {
-        let wrong = note(&mut last, log, tail, words);
-        bad = bad | wrong;
+    for _ in 0..log_region::slots(log) {
+        if !log_region::is_written(log, tail) {
+            break;
+        }
+        if let Record::Commit { thread } = log_region::read(log, tail, words)? {
+            last[thread as usize] = tail;
+        }
         tail += 1;
-        left -= 1;
     }
-    Found {
-        tail: tail,
-        bad: bad,
-        last: last,
-    }
+    Some(Records {
+        log,
+        words,
+        head,
+        tail,
+        last,
+    })
 }

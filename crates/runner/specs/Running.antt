@@ -8,6 +8,7 @@ use Rattle.model.specs.Book.{opened_book}
 use Rattle.model.specs.Run.{Timed, World, ran, answers_of, stores_of}
 use Rattle.runner.specs.declared.Ran.{Ran}
 use Rattle.machine.specs.Answers.{view}
+use Rattle.state.specs.Answers.{refusal_number}
 use Rattle.state.specs.View.{memory}
 
 -- the lent slices: kind, thread, word or line, value and supply of each step
@@ -70,9 +71,8 @@ pub record Report : Type 0 where
 abbrev pub reported : Ran → List ℕ → List ℕ → List ℕ → List ℕ → List ℕ → Report
 reported r home working log answers stores =
     record {
-      answer = r.answer;
-      machine = view
-          r.state;
+      answer = refusal_number r.answer;
+      machine = view r.state;
       memory = memory home working log;
       answers = answers;
       stores = stores;

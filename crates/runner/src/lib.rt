@@ -2,14 +2,15 @@
 #![tactic(auto)]
 
 use machine::State;
+use state::Refusal;
 
 mod running;
 
 pub use running::run;
 
-// What a run of a list of steps hands back: 0, or 1 where nothing was run, and the state after the last step.
-#[derive(Clone, Copy)]
+// What a run of a list of steps hands back: whether it was refused, and the state after the last step.
+#[derive(Clone, Copy, PartialEq, Eq)]
 pub struct Ran {
-    pub answer: u64,
+    pub answer: Result<(), Refusal>,
     pub state: State,
 }

@@ -1,5 +1,5 @@
 // Runs a list of steps over the three buffers.
-ghost use Rattle.std.specs.Prelude.{◌<◌, ◌≡◌, length};
+ghost use Rattle.std.specs.Prelude.{◌<◌, ◌≡◌, length, OnErr};
 ghost use Rattle.machine.specs.Answers.{view};
 ghost use Rattle.state.specs.View.{memory};
 ghost use Rattle.runner.specs.Running.{script, numbered, step_at, known_kinds, runnable, reported, run_of};
@@ -7,7 +7,7 @@ ghost use Rattle.runner.specs.Running.{script, numbered, step_at, known_kinds, r
 use crate::Ran;
 use machine::State;
 use parts::Step;
-use state::{DONE, SIZE};
+use state::{Refusal, answer_number};
 
 // A step by the number of its kind, from 0 for begin to 8 for recover.
 fn step_of(kind: u64, thread: u64, place: u64, value: u64) -> Step
@@ -43,14 +43,7 @@ fn step_at(kinds: &[u64], threads: &[u64], places: &[u64], values: &[u64], i: us
 fn known_kinds(kinds: &[u64]) -> bool
     ensures { result ≡ known_kinds kinds.now }
 {
-    let mut i = 0;
-    while i < kinds.len() {
-        if kinds[i] >= 9 {
-            return false;
-        }
-        i += 1;
-    }
-    true
+    kinds.iter().all(|kind| *kind < 9)
 }
 
 // The slices are equal in length, and every kind is known.
@@ -76,7 +69,7 @@ fn is_runnable(
 }
 
 // The first step takes `state`. The answer of each step and the number of its stores are written to the last two
-// slices. Lengths that differ or a kind above 8 give 1, and nothing is run.
+// slices. Lengths that differ or a kind above 8 are refused, and nothing is run.
 pub fn run(
     mut state: State,
     home: &mut [u64],
@@ -94,26 +87,18 @@ pub fn run(
         ≡ run_of (script kinds.now threads.now places.now values.now supplies.now)
         (view state) (memory home.old working.old log.old)
         answers.old stores.old }
-    ensures state_value { (result.answer ≡ 0 → ⊥) → result.state ≡ state }
+    ensures kept { OnErr result.answer (result.state ≡ state) }
 {
     if !is_runnable(kinds, threads, places, values, supplies, answers, stores) {
-        return Ran {
-            answer: SIZE,
-            state,
-        };
+        let answer = Err(Refusal::Size);
+        return Ran { answer, state };
     }
-    let mut i = 0;
-    while i < kinds.len() {
+    for i in 0..kinds.len() {
         let step = step_at(kinds, threads, places, values, i);
-        let supply = supplies[i];
-        let made = state.step(step, home, working, log, supply);
-        answers[i] = made.answer;
-        stores[i] = supply - made.left;
-        state = made.state;
-        i += 1;
+        let made = state.make(step, home, working, log, supplies[i]);
+        answers[i] = answer_number(made.answer);
+        stores[i] = supplies[i] - made.left;
     }
-    Ran {
-        answer: DONE,
-        state,
-    }
+    let answer = Ok(());
+    Ran { answer, state }
 }

@@ -14,11 +14,10 @@ pub(crate) fn step_by_method(
     match step {
         Step::Begin { thread } => {
             let begun = state.begin(thread);
-            let next = begun.state;
             Answer {
                 answer: begun.answer,
                 left: supply,
-                state: next,
+                state: begun.state,
             }
         }
         Step::Store {
@@ -33,14 +32,5 @@ pub(crate) fn step_by_method(
         Step::Commit { thread } => state.commit(home, working, log, supply, thread),
         Step::DeleteOldest => state.delete_oldest(home, working, log, supply),
         Step::Recover => State::recover(home, working, log, supply),
-    }
-}
-
-// Whether a step is recover, which takes no state.
-pub(crate) fn is_recover(step: Step) -> bool {
-    if let Step::Recover = step {
-        true
-    } else {
-        false
     }
 }

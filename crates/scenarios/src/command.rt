@@ -1,192 +1,248 @@
 // A command of the table: a word, the numbers after it, and what is expected of it. It is read byte by byte.
+ghost use Rattle.std.specs.Prelude.{◌<◌};
 
-// A supply that does not run out here: 2^64 − 1.
-pub const AMPLE: u64 = 0xffff_ffff_ffff_ffff;
+use parts::Step;
 
 // The largest number that takes another digit.
 const MOST: u64 = 0x0fff_ffff_ffff_ffff;
 
-// A word is the number that its last eight letters make, a byte each: the words before a step's further numbers.
-const IN: u64 = 0x69_6e;
+// A word is known by its last eight letters. Zeros stand before a shorter one.
+type Word = [u8; 8];
 
-const TO: u64 = 0x74_6f;
+const NO_LETTERS: Word = [0; 8];
 
-const BY: u64 = 0x62_79;
+// The first word of a command: a step, what is changed by hand, or what is expected at the end.
+#[derive(Clone, Copy)]
+pub enum Verb {
+    Recover,
+    Begin,
+    Store,
+    LogUndo,
+    LogRedo,
+    SetDown,
+    WriteHome,
+    Commit,
+    Delete,
+    Large,
+    Lend,
+    LogWord,
+    Limits,
+    Line,
+    AddUndo,
+    AddRedo,
+    Redos,
+    Close,
+    Home,
+    Working,
+    Head,
+    Slot,
+    Unknown,
+}
 
-const WITH: u64 = 0x77_69_74_68;
+impl Verb {
+    fn named(word: &Word) -> Verb {
+        match word {
+            b"\0recover" => Verb::Recover,
+            b"\0\0\0begin" => Verb::Begin,
+            b"\0\0\0store" => Verb::Store,
+            b"log-undo" => Verb::LogUndo,
+            b"log-redo" => Verb::LogRedo,
+            b"set-down" => Verb::SetDown,
+            b"ite-home" => Verb::WriteHome,
+            b"\0\0commit" => Verb::Commit,
+            b"\0\0delete" => Verb::Delete,
+            b"\0\0\0large" => Verb::Large,
+            b"\0\0\0\0lend" => Verb::Lend,
+            b"log-word" => Verb::LogWord,
+            b"\0\0limits" => Verb::Limits,
+            b"\0\0\0\0line" => Verb::Line,
+            b"add-undo" => Verb::AddUndo,
+            b"add-redo" => Verb::AddRedo,
+            b"\0\0\0redos" => Verb::Redos,
+            b"\0\0\0close" => Verb::Close,
+            b"\0\0\0\0home" => Verb::Home,
+            b"\0working" => Verb::Working,
+            b"\0\0\0\0head" => Verb::Head,
+            b"\0\0\0\0slot" => Verb::Slot,
+            _ => Verb::Unknown,
+        }
+    }
+}
 
-const TIMES: u64 = 0x74_69_6d_65_73;
+// What a number says, by the word before it: something of a step, one of the verb's own numbers, or what is expected.
+#[derive(Clone, Copy)]
+enum Key {
+    In,
+    To,
+    By,
+    With,
+    Times,
+    Own,
+    Expected,
+}
 
-// What stands before the answer and the stores that are expected: no word.
-const EXPECT: u64 = 0;
+impl Key {
+    fn named(word: &Word) -> Key {
+        match word {
+            b"\0\0\0\0\0\0in" => Key::In,
+            b"\0\0\0\0\0\0to" => Key::To,
+            b"\0\0\0\0\0\0by" => Key::By,
+            b"\0\0\0\0with" => Key::With,
+            b"\0\0\0times" => Key::Times,
+            _ => Key::Own,
+        }
+    }
+}
 
 // What has been read of a command.
 #[derive(Clone, Copy)]
 pub struct Command {
     // The first word, and the numbers that belong to it.
-    pub verb: u64,
+    pub verb: Option<Verb>,
     pub numbers: [u64; 4],
-    pub count: usize,
+    count: usize,
     // Of a step: `by` thread, `in` word, how many `times`, `with` which supply.
     pub thread: u64,
     pub word: u64,
     pub times: u64,
     pub supply: u64,
-    // How many numbers are expected of it, and these: an answer, and stores.
-    pub expects: u64,
-    pub answer: u64,
-    pub stores: u64,
-    // The command is whole, and each byte so far was understood.
-    pub ended: bool,
+    // The last two numbers that are expected of it: an answer, and stores.
+    pub answer: Option<u64>,
+    pub stores: Option<u64>,
+    // Each byte so far was understood.
     pub known: bool,
-    // The word before the next number, and the letters or the digits of the one that is read.
-    key: u64,
-    letters: u64,
-    digits: bool,
-    value: u64,
-    base: u64,
-}
-
-// Nothing read yet.
-pub(crate) fn none() -> Command {
-    Command {
-        verb: 0,
-        numbers: [0; 4],
-        count: 0,
-        thread: 0,
-        word: 0,
-        times: 1,
-        supply: AMPLE,
-        expects: 0,
-        answer: 0,
-        stores: 0,
-        ended: false,
-        known: true,
-        key: 0,
-        letters: 0,
-        digits: false,
-        value: 0,
-        base: 10,
-    }
-}
-
-// The value of a digit, or 16 of what is none.
-fn digit_of(byte: u8) -> u64 {
-    match byte {
-        b'0'..=b'9' => (byte - b'0') as u64,
-        b'a'..=b'f' => (byte - b'a') as u64 + 10,
-        _ => 16,
-    }
-}
-
-// A number with one more digit. Numbers above MOST take none.
-fn longer(value: u64, base: u64, digit: u64) -> u64 {
-    if value > MOST {
-        return value;
-    }
-    if digit > 15 {
-        return value;
-    }
-    if base == 16 {
-        16 * value + digit
-    } else {
-        10 * value + digit
-    }
+    // What the next number says, and the letters or the number that is read.
+    key: Key,
+    letters: Word,
+    number: Option<u64>,
+    hexadecimal: bool,
 }
 
 impl Command {
-    fn with_digit(mut self, digit: u64) -> Command {
-        self.known = self.known & ((self.value <= MOST) & (self.letters == 0));
-        self.digits = true;
-        let value = self.value;
-        let base = self.base;
-        self.value = longer(value, base, digit);
-        self
+    // Nothing read yet: once, with an ample supply, of thread 0 and word 0.
+    pub(crate) fn none() -> Command {
+        Command {
+            verb: None,
+            numbers: [0; 4],
+            count: 0,
+            thread: 0,
+            word: 0,
+            times: 1,
+            supply: u64::MAX,
+            answer: None,
+            stores: None,
+            known: true,
+            key: Key::Expected,
+            letters: NO_LETTERS,
+            number: None,
+            hexadecimal: false,
+        }
     }
 
-    fn with_letter(mut self, byte: u8) -> Command {
-        self.letters = self.letters % 0x100_0000_0000_0000 * 256 + byte as u64;
-        self.known = self.known & !self.digits;
-        self
+    // Numbers above MOST take no digit.
+    fn read_digit(&mut self, digit: u64)
+        requires { digit < 16 }
+    {
+        let value = self.number.unwrap_or(0);
+        self.known = self.known && value <= MOST && self.letters == NO_LETTERS;
+        let longer = if value > MOST {
+            value
+        } else if self.hexadecimal {
+            16 * value + digit
+        } else {
+            10 * value + digit
+        };
+        self.number = Some(longer);
+    }
+
+    fn read_letter(&mut self, letter: u8) {
+        self.letters.copy_within(1.., 0);
+        self.letters[7] = letter;
+        self.known = self.known && self.number.is_none();
     }
 
     // A number is whole: it goes where the word before it says.
-    fn with_number(mut self, value: u64) -> Command {
-        let key = self.key;
-        match key {
-            IN => self.word = value,
-            TO => {
-                let less = std::num::wrapping_sub_u64(value, self.word);
-                self.times = std::num::wrapping_add_u64(less, 1);
-            }
-            BY => self.thread = value,
-            WITH => self.supply = value,
-            TIMES => self.times = value,
-            EXPECT => {
-                self.answer = self.stores;
-                self.stores = value;
-                self.expects = std::num::wrapping_add_u64(self.expects, 1);
-            }
-            _ => {
-                let n = self.count;
-                if n < 4 {
-                    self.numbers[n] = value;
-                    self.count = n + 1;
-                } else {
-                    self.known = false;
+    fn put(&mut self, number: u64) {
+        match self.key {
+            Key::In => self.word = number,
+            Key::To => self.times = number.wrapping_sub(self.word).wrapping_add(1),
+            Key::By => self.thread = number,
+            Key::With => self.supply = number,
+            Key::Times => self.times = number,
+            Key::Own => match self.numbers.get_mut(self.count) {
+                Some(place) => {
+                    *place = number;
+                    self.count += 1;
                 }
+                None => self.known = false,
+            },
+            Key::Expected => {
+                self.known = self.known && self.answer.is_none();
+                self.answer = self.stores.replace(number);
             }
         }
-        self
     }
 
     // The number or the word that was read, if any, is whole.
-    fn finished(mut self) -> Command {
-        let value = self.value;
-        let letters = self.letters;
-        let digits = self.digits;
-        self.digits = false;
-        self.value = 0;
-        self.base = 10;
-        self.letters = 0;
-        if digits {
-            return self.with_number(value);
+    fn finish(&mut self) {
+        if let Some(number) = self.number {
+            self.put(number);
+        } else if self.letters != NO_LETTERS {
+            self.key = Key::named(&self.letters);
+            self.verb = self.verb.or(Some(Verb::named(&self.letters)));
         }
-        if letters != 0 {
-            self.key = letters;
-            if self.verb == 0 {
-                self.verb = letters;
-            }
-        }
-        self
+        self.letters = NO_LETTERS;
+        self.number = None;
+        self.hexadecimal = false;
     }
 
-    // A byte between words and numbers.
-    fn divided(self, byte: u8) -> Command {
-        let mut next = self.finished();
+    // A byte between words and numbers. Hands back the command that it ends.
+    fn divide(&mut self, byte: u8) -> Option<Command> {
+        self.finish();
         match byte {
             b' ' | b'/' => {}
-            b'=' => next.key = EXPECT,
-            b';' | b'|' => next.ended = true,
-            b':' => next = none(),
-            _ => next.known = false,
+            b'=' => self.key = Key::Expected,
+            b';' | b'|' => {
+                let whole = *self;
+                *self = Command::none();
+                return Some(whole);
+            }
+            b':' => *self = Command::none(),
+            _ => self.known = false,
         }
-        next
+        None
     }
 
-    // The next byte.
-    pub(crate) fn read(mut self, byte: u8) -> Command {
-        let digit = digit_of(byte);
-        if digit < self.base {
-            return self.with_digit(digit);
+    // The next byte. Hands back the command that it ends.
+    pub(crate) fn read(&mut self, byte: u8) -> Option<Command> {
+        match byte {
+            b'0'..=b'9' => self.read_digit((byte - b'0') as u64),
+            b'a'..=b'f' if self.hexadecimal => self.read_digit((byte - b'a') as u64 + 10),
+            b'x' if self.number.is_some() => self.hexadecimal = true,
+            b'a'..=b'z' | b'-' => self.read_letter(byte),
+            _ => return self.divide(byte),
         }
-        if (byte == b'x') & self.digits {
-            self.base = 16;
-            return self;
+        None
+    }
+
+    // The step that is asked for, where a store's word is `place`. Other commands ask for none.
+    pub(crate) fn step(&self, place: u64) -> Option<Step> {
+        let n = self.numbers[0];
+        match self.verb? {
+            Verb::Recover => Some(Step::Recover),
+            Verb::Begin => Some(Step::Begin { thread: n }),
+            Verb::Store => Some(Step::Store {
+                thread: self.thread,
+                word: place,
+                value: n,
+            }),
+            Verb::LogUndo => Some(Step::LogUndo),
+            Verb::LogRedo => Some(Step::LogRedo),
+            Verb::SetDown => Some(Step::Evict { line: n }),
+            Verb::WriteHome => Some(Step::WriteBack { line: n }),
+            Verb::Commit => Some(Step::Commit { thread: n }),
+            Verb::Delete => Some(Step::DeleteOldest),
+            _ => None,
         }
-        if ((byte >= b'a') & (byte <= b'z')) | (byte == b'-') {
-            return self.with_letter(byte);
-        }
-        self.divided(byte)
     }
 }

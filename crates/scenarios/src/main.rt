@@ -10,11 +10,8 @@ mod by_method;
 mod changes;
 mod command;
 mod expected;
-mod lists;
-mod output;
 mod report;
 mod scenario;
-mod states;
 
 use std::io;
 use std::io::Read;
@@ -38,11 +35,10 @@ fn read_full(input: &mut impl Read, buffer: &mut [u8]) -> io::Result<usize>
 }
 
 fn main(rt: HostRuntime) -> io::Result<()> {
-    let mut text = [0; ROOM];
-    let n = read_full(&mut rt.stdin(), &mut text)?;
-    if n < ROOM {
-        output::total(&rt, scenario::all(&rt, &text[..n])?)
-    } else {
-        output::print(&rt, b"the table is too long\n")
+    let mut room = [0; ROOM];
+    let n = read_full(&mut rt.stdin(), &mut room)?;
+    if n == ROOM {
+        return println!(rt; "the table is too long");
     }
+    scenario::all(&rt, &room[..n])
 }

@@ -1,152 +1,108 @@
 // The table: a scenario a line, its name, a colon, its commands, a bar, and what is expected at the end. A line that
 // begins with a '#' is a remark.
-ghost use Rattle.std.specs.Prelude.{◌≤◌};
-
-use crate::bench::{Bench, fresh};
-use crate::command::none;
-use crate::output::{Tally, print};
+use crate::bench::Bench;
+use crate::command::Command;
 use std::io;
-use std::io::Print;
 
-// Runs a scenario.
+// How many scenarios have run, and how many of them came out wrong.
+#[derive(Clone, Copy, Default)]
+struct Tally {
+    ran: u64,
+    wrong: u64,
+}
+
+impl Tally {
+    fn count(&mut self, right: bool) {
+        self.ran = self.ran.wrapping_add(1);
+        if !right {
+            self.wrong = self.wrong.wrapping_add(1);
+        }
+    }
+}
+
+// Runs a scenario. A command that ends with the line is one only if it has a word.
 fn run(line: &[u8]) -> Bench {
-    let mut bench = fresh();
-    let mut command = none();
-    let mut i = 0;
-    while i < line.len() {
-        command = command.read(line[i]);
-        if command.ended {
-            bench = bench.does(command);
-            command = none();
+    let mut bench = Bench::fresh();
+    let mut command = Command::none();
+    for byte in line {
+        if let Some(whole) = command.read(*byte) {
+            bench.does(&whole);
         }
-        i += 1;
     }
-    let last = command.read(b';');
-    if last.verb == 0 {
-        bench
-    } else {
-        bench.does(last)
+    if let Some(last) = command.read(b';')
+        && last.verb.is_some()
+    {
+        bench.does(&last);
     }
+    bench
 }
 
-// The blanks after a name of n bytes.
-fn spaces(rt: &impl Print, n: usize) -> io::Result<()> {
-    match n {
-        2 => print(rt, b"   "),
-        3 => print(rt, b"  "),
-        _ => print(rt, b" "),
-    }
-}
-
-// The name of a scenario, and blanks up to the next column.
+// The name of a scenario, up to its colon, and blanks up to the next column.
 fn name(rt: &impl Print, line: &[u8]) -> io::Result<()> {
-    let start = 0;
-    let mut i = 0;
-    while i < line.len() {
-        if line[i] == b':' {
-            print(rt, &line[start..i])?;
-            return spaces(rt, i);
-        }
-        i += 1;
-    }
-    Ok(())
-}
-
-// Whether a line's text is a step's words after a byte: from a colon or a semicolon up to an equals sign or a bar.
-fn says(byte: u8, said: bool) -> bool {
-    match byte {
-        b':' | b';' => true,
-        b'=' | b'|' => false,
-        _ => said,
+    let Some(n) = line.iter().position(|byte| *byte == b':') else {
+        return Ok(());
+    };
+    rt.write_all(&line[..n])?;
+    match n {
+        2 => print!(rt; "   "),
+        3 => print!(rt; "  "),
+        _ => print!(rt; " "),
     }
 }
 
-// Where the words begin: after a colon, or at the semicolon behind what is expected.
-fn start_of(byte: u8, said: bool, start: usize, i: usize, next: usize) -> usize
-    requires { (start ≤ i) × (i ≤ next) }
-    ensures { result ≤ next }
-{
-    if byte == b':' {
-        next
-    } else {
-        if (byte == b';') & !said { i } else { start }
+// A step's words, in the text up to what is expected of it: behind the last colon, or else from the first semicolon on.
+fn words(text: &[u8]) -> &[u8] {
+    if let Some(colon) = text.iter().rposition(|byte| *byte == b':') {
+        return &text[colon + 1..];
+    }
+    match text.iter().position(|byte| *byte == b';') {
+        Some(semicolon) => &text[semicolon..],
+        None => &[],
     }
 }
 
 // The steps in words: a line up to its bar, without the name and what is expected of each step.
-fn steps(rt: &impl Print, line: &[u8]) -> io::Result<()> {
-    let mut said = false;
-    let mut start = 0;
-    let mut i = 0;
-    while i < line.len() {
-        let byte = line[i];
-        let next = i + 1;
-        let goes_on = says(byte, said);
-        if said & !goes_on {
-            print(rt, &line[start..i])?;
+fn tells(rt: &impl Print, line: &[u8]) -> io::Result<()> {
+    for text in line.split_inclusive(|byte| *byte == b'=' || *byte == b'|') {
+        match text {
+            [step @ .., b'='] => rt.write_all(words(step))?,
+            [step @ .., b'|'] => return rt.write_all(words(step)),
+            _ => {}
         }
-        if byte == b'|' {
-            return Ok(());
-        }
-        start = start_of(byte, said, start, i, next);
-        said = goes_on;
-        i = next;
     }
     Ok(())
 }
 
-// A scenario's line, or a remark.
-fn show(rt: &impl Print, line: &[u8], tally: Tally) -> io::Result<Tally> {
-    if line.len() == 0 {
-        print(rt, b"\n")?;
-        return Ok(tally);
-    }
-    if line[0] == b'#' {
-        print(rt, line)?;
-        print(rt, b"\n")?;
-        return Ok(tally);
-    }
+// Runs a scenario, and prints its line. Tells whether everything came out as expected.
+fn show(rt: &impl Print, line: &[u8]) -> io::Result<bool> {
     let bench = run(line);
     let right = bench.is_right();
     name(rt, line)?;
     if right {
-        print(rt, b"ok    ")?;
+        print!(rt; "ok    ")?;
     } else {
-        print(rt, b"WRONG ")?;
+        print!(rt; "WRONG ")?;
         bench.warns(rt)?;
     }
     bench.shows_steps(rt)?;
-    print(rt, b"  |")?;
-    steps(rt, line)?;
+    print!(rt; "  |")?;
+    tells(rt, line)?;
     bench.shows_slots(rt)?;
-    print(rt, b"\n")?;
-    Ok(tally.count(right))
+    println!(rt)?;
+    Ok(right)
 }
 
-// Where a line begins: after a line feed.
-fn line_start(byte: u8, start: usize, next: usize) -> usize
-    requires { start ≤ next }
-    ensures { result ≤ next }
-{
-    if byte == b'\n' { next } else { start }
-}
-
-// Every line.
-pub(crate) fn all(rt: &impl Print, text: &[u8]) -> io::Result<Tally> {
-    let mut tally = Tally { ran: 0, wrong: 0 };
-    let mut start = 0;
-    let mut i = 0;
-    while i < text.len() {
-        let byte = text[i];
-        let next = i + 1;
-        if byte == b'\n' {
-            tally = show(rt, &text[start..i], tally)?;
+// Every line, and the count.
+pub(crate) fn all(rt: &impl Print, text: &[u8]) -> io::Result<()> {
+    let mut tally = Tally::default();
+    for ended in text.split_inclusive(|byte| *byte == b'\n') {
+        let line = ended.strip_suffix(b"\n").unwrap_or(ended);
+        if line.is_empty() || line.starts_with(b"#") {
+            rt.write_all(line)?;
+            println!(rt)?;
+        } else {
+            tally.count(show(rt, line)?);
         }
-        start = line_start(byte, start, next);
-        i = next;
     }
-    if start < text.len() {
-        tally = show(rt, &text[start..], tally)?;
-    }
-    Ok(tally)
+    println!(rt; "\n{} scenarios, {} wrong", tally.ran, tally.wrong)
 }

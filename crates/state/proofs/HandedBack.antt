@@ -1,12 +1,15 @@
 -- What the lost and the fresh state mean, and which state is handed back on each way out of a step.
 use Prim.Native.Nat.{ℕ, ◌/◌, ◌≤◌}
-use mathlib.Core.Path.{◌≡◌, refl, sym, ap, ◌∙◌}
+use mathlib.Core.Path.{◌≡◌, refl, ap}
 use native.Mathlib.Omega.{arith}
+use Rattle.std.specs.Prelude.{Ok, Err}
 use Rattle.parts.specs.Listed.{listed}
 use Rattle.lines.proofs.FirstLines.{first-free}
 use Rattle.model.specs.Machine.{lost_machine, fresh_machine, with_lines}
 use Rattle.state.specs.declared.Machine.{Machine}
 use Rattle.state.specs.declared.Outcome.{Outcome}
+use Rattle.state.specs.declared.refusals.Refusal.{Refusal}
+use Rattle.state.specs.declared.refusals.Stop.TheVariants.{Refused, Cut}
 use Rattle.state.specs.View.{view}
 use Rattle.state.specs.HandedBack.{lost_fields, fresh_fields, HandedBack}
 
@@ -19,17 +22,16 @@ unfolding listed
 fresh-view words slots tail h =
     ap (λ ls. with_lines ls (fresh_machine words slots tail)) (first-free (words / 8) (omega arith))
 
--- a refusal's number is neither that of done nor that of cut
-pub refused-back : (taken : Machine) (r : Outcome) (n c : ℕ) → (n ≡ 255 → ⊥) → r ≡ record { answer = n; left = c; state = taken }
-    → HandedBack taken r
-refused-back taken r n c other e =
-    record { cut = λ a. absurd (other (sym (ap (λ (m : Outcome). m.answer) e) ∙ a)); refused = λ some uncut. ap (λ (m : Outcome). m.state) e }
+-- refused, the state taken is handed back
+pub refused-back : (taken : Machine) (r : Outcome) (refusal : Refusal) (c : ℕ)
+    → r ≡ record { answer = Err (Refused refusal); left = c; state = taken } → HandedBack taken r
+refused-back taken r refusal c e =
+    record { cut = λ a. cc (ap (λ (m : Outcome). m.answer) e); refused = λ other a. ap (λ (m : Outcome). m.state) e }
 
-pub cut-back : (taken : Machine) (r : Outcome) → r ≡ record { answer = 255; left = 0; state = lost_fields } → HandedBack taken r
+pub cut-back : (taken : Machine) (r : Outcome) → r ≡ record { answer = Err Cut; left = 0; state = lost_fields } → HandedBack taken r
 cut-back taken r e =
-    record { cut = λ a. ap (λ (m : Outcome). m.state) e; refused = λ some uncut. absurd (uncut (ap (λ (m : Outcome). m.answer) e)) }
+    record { cut = λ a. ap (λ (m : Outcome). m.state) e; refused = λ refusal a. cc (ap (λ (m : Outcome). m.answer) e) }
 
 -- of a step that is done `view` says all that its state means
-pub done-back : (taken : Machine) (r : Outcome) → r.answer ≡ 0 → HandedBack taken r
-done-back taken r e =
-    record { cut = λ a. absurd (omega (arith, e, a)); refused = λ some uncut. absurd (some e) }
+pub done-back : (taken : Machine) (r : Outcome) → r.answer ≡ Ok tt → HandedBack taken r
+done-back taken r e = record { cut = λ a. cc; refused = λ refusal a. cc }

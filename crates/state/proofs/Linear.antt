@@ -18,17 +18,14 @@ use Rattle.parts.specs.States.{Clean, Dirty, URLog, ULog}
 use Rattle.parts.proofs.Listed.{length-listed, get_or-listed}
 use Rattle.model.specs.Lists.{keep, all, up_to, is_empty}
 use Rattle.model.specs.Machine.{Machine, line_of, state_in, holder_in, marked}
-use Rattle.model.specs.Consistent.{is_width, entries_of, line_limits, entry_limits, within_limits, consistent}
+use Rattle.model.specs.Consistent.{is_width, entries_of, line_limits, entry_limits, within_limits, in_order, consistent}
 use Rattle.model.specs.Consistent.{dirty_wait, redo_clean, entries_held, holders_open, free_clean}
 use Rattle.model.proofs.Lists.{halves, both_left, both_right, every-implied, every-kept, every-listed}
 use Rattle.model.proofs.Lines.{state-marked, holder-marked, length_marked, length-words, state-logged}
 use Rattle.model.proofs.Core.{EntryOk}
 use Rattle.model.proofs.Consistency.{both, all_true, every-entry, entry-limits, WaitsFor, AllWait, all-in-state, all-alone, all_held}
 use Rattle.model.proofs.Fit.{Clauses, clauses, all-every}
-use Rattle.buffers.specs.Waiting.{entry_of}
-use Rattle.state.specs.declared.Counts.{Counts}
-use Rattle.state.specs.StateOf.{lines_lent, entries_lent, state_of}
-use Rattle.state.specs.Linear.{in_limits, line_sound, each_waits, all_marked, counts_of, linear}
+use Rattle.state.specs.Linear.{in_limits, line_sound, each_waits, all_marked, linear}
 use Rattle.state.proofs.Marks.{and-under, all_both, Waiting, waiting-test, test-waiting, holder_sound, line_without_dirty, after-marks}
 use Rattle.state.proofs.NoneDirty.{none-dirty, none-dirty-test}
 
@@ -41,28 +38,28 @@ same_tests false true f g = g refl
 same_tests false false f g = refl
 
 -- the parts of the limits
-record Limits (n : Counts) : Type 0 where
-  bounds : (leb n.head numbers && leb n.tail numbers) ≡ true
-  sizes : (is_width n.words && (leb 8 n.slots && leb n.slots 1024)) ≡ true
-  entries : (leb n.undos 16 && leb n.redos 32) ≡ true
-  order : (leb n.head n.tail && leb n.tail (n.head + n.slots)) ≡ true
+record Limits (m : Machine) : Type 0 where
+  bounds : (leb m.span.head numbers && leb m.span.tail numbers) ≡ true
+  sizes : (is_width m.sizes.words && (leb 8 m.sizes.slots && leb m.sizes.slots 1024)) ≡ true
+  entries : (leb (length m.buffers.undo_redo) 16 && leb (length m.buffers.redo) 32) ≡ true
+  order : in_order m ≡ true
 
-limits : (n : Counts) → in_limits n ≡ true → Limits n
+limits : (m : Machine) → in_limits m ≡ true → Limits m
 unfolding in_limits
-limits n t =
+limits m t =
     let all = halves t in
     let w = halves all.1 in
     let s = halves w.1 in
     record { bounds = all.0; sizes = w.0; entries = s.0; order = s.1 }
   where
     size : Bool
-    size = is_width n.words && (leb 8 n.slots && leb n.slots 1024)
+    size = is_width m.sizes.words && (leb 8 m.sizes.slots && leb m.sizes.slots 1024)
 
     few : Bool
-    few = leb n.undos 16 && leb n.redos 32
+    few = leb (length m.buffers.undo_redo) 16 && leb (length m.buffers.redo) 32
 
     order : Bool
-    order = leb n.head n.tail && leb n.tail (n.head + n.slots)
+    order = in_order m
 
 -- ---- the lines
 
@@ -313,7 +310,7 @@ every-pair P Q (x ∷ xs) p q = ((p.0, q.0), every-pair P Q xs p.1 q.1)
 -- the clauses of limits, lines, undo+redo entries and redo entries, each by itself
 unfoldable clausewise : Machine → Bool
 clausewise m =
-    in_limits (counts_of m) &&
+    in_limits m &&
     (all (holder_sound m.opened) m.lines &&
     (undos_wait m.sizes.words m.lines m.buffers.undo_redo && each_waits Clean ULog m.sizes.words m.lines m.buffers.redo))
 
@@ -329,7 +326,7 @@ module _ (m : Machine) (lines : length m.lines ≡ m.sizes.words / 8) where
   unfolding clausewise consistent within_limits dirty_wait redo_clean entries_held
   clausewise-passes t =
       let h = halves t in
-      let n = limits (counts_of m) h.0 in
+      let n = limits m h.0 in
       let b = halves h.1 in
       let e = halves b.1 in
       let l = halves {a = all line_limits m.lines} {b = holders_open m && free_clean m} (sym (lines-clauses m) ∙ b.0) in
@@ -422,57 +419,47 @@ module _ (m : Machine) (lines : length m.lines ≡ m.sizes.words / 8) where
   pub linear-consistent : linear m ≡ consistent m
   unfolding linear clausewise undos_wait
   linear-consistent =
-      and-under (in_limits (counts_of m)) _ _
+      and-under (in_limits m) _ _
       (λ t.
-      let w = wide (both_left (is_width m.sizes.words) (leb 8 m.sizes.slots && leb m.sizes.slots 1024) (limits (counts_of m) t).sizes) in
+      let w = wide (both_left (is_width m.sizes.words) (leb 8 m.sizes.slots && leb m.sizes.slots 1024) (limits m t).sizes) in
       after-marks m.sizes.words m.opened m.buffers.undo_redo m.buffers.redo m.lines (omega arith))
       ∙ same_tests (clausewise m) (consistent m) clausewise-passes (λ t. clauses-pass (clauses m t))
 
--- ---- the test of the state that is lent
+-- ---- the test by its parts
 
 -- what the limits say of W and of the buffers
-pub limits-hold : (n : Counts) → in_limits n ≡ true → (n.words ≤ 512) × ((n.words % 8 ≡ 0) × ((n.undos ≤ 16) × (n.redos ≤ 32)))
-limits-hold n t =
-    let l = limits n t in
-    let rest = leb n.words 512 && eqb (n.words % 8) 0 in
-    let w = halves {a = leb 8 n.words} {b = rest} (both_left (is_width n.words) (leb 8 n.slots && leb n.slots 1024) l.sizes) in
+pub limits-hold : (m : Machine) → in_limits m ≡ true
+    → (m.sizes.words ≤ 512) × (length m.buffers.undo_redo ≤ 16) × (length m.buffers.redo ≤ 32)
+limits-hold m t =
+    let l = limits m t in
+    let rest = leb m.sizes.words 512 && eqb (m.sizes.words % 8) 0 in
+    let w = halves {a = leb 8 m.sizes.words} {b = rest} (both_left (is_width m.sizes.words) (leb 8 m.sizes.slots && leb m.sizes.slots 1024) l.sizes) in
     let v = halves w.1 in
     let e = halves l.entries in
-    (leb-true n.words 512 v.0, (eqb-true (n.words % 8) 0 v.1, (leb-true n.undos 16 e.0, leb-true n.redos 32 e.1)))
+    (leb-true m.sizes.words 512 v.0, leb-true (length m.buffers.undo_redo) 16 e.0, leb-true (length m.buffers.redo) 32 e.1)
 
--- the state that is lent
-module _ (n : Counts) (opened : List Bool) (holders states undo-keys redo-keys : List ℕ) where
-  abbrev lent : Machine
-  lent = state_of n opened (lines_lent (n.words / 8) holders states) (entries_lent n.undos undo-keys) (entries_lent n.redos redo-keys)
-
-  -- its counts, by its buffers
-  counted : counts_of lent ≡ n
-  counted = λ i. record {
-    words = n.words;
-    slots = n.slots;
-    head = n.head;
-    tail = n.tail;
-    undos = length-listed n.undos (entry_of undo-keys [] []) i;
-    redos = length-listed n.redos (entry_of redo-keys [] []) i;
-  }
-
-  abbrev undos : List Entry
-  undos = lent.buffers.undo_redo
-
+module _ (m : Machine) (lines : length m.lines ≡ m.sizes.words / 8) where
   abbrev after : List Line
-  after = all_marked URLog lent.lines undos
+  after = all_marked URLog m.lines m.buffers.undo_redo
 
   -- the parts of the test make the whole: lines and redo entries count only where the undo+redo entries wait
-  pub parts-consistent : (limits wait sound clean : Bool) → limits ≡ in_limits n → wait ≡ each_waits Dirty URLog n.words lent.lines undos
-      → (wait ≡ true → (sound ≡ all (line_sound opened) after) × (clean ≡ each_waits Clean ULog n.words after lent.buffers.redo))
-      → (limits && (wait && (sound && clean))) ≡ consistent lent
+  pub parts-consistent : (wait sound clean : Bool) → in_limits m ≡ true
+      → wait ≡ each_waits Dirty URLog m.sizes.words m.lines m.buffers.undo_redo
+      → (wait ≡ true
+      → (sound ≡ all (line_sound m.opened) after) × (clean ≡ each_waits Clean ULog m.sizes.words after m.buffers.redo))
+      → (wait && (sound && clean)) ≡ consistent m
   unfolding linear
-  parts-consistent limits wait sound clean a b c =
-      let rest : Bool = all (line_sound opened) after && each_waits Clean ULog n.words after lent.buffers.redo in
-      ap₂ (λ (x y : Bool). x && y) (a ∙ ap in_limits (sym counted))
-      (and-under wait (sound && clean) rest (λ t. ap₂ (λ (x y : Bool). x && y) (c t).0 (c t).1) ∙ ap (λ (x : Bool). x && rest) b)
-      ∙ linear-consistent lent (length-listed (n.words / 8) _)
+  parts-consistent wait sound clean within b c =
+      let rest : Bool = all (line_sound m.opened) after && each_waits Clean ULog m.sizes.words after m.buffers.redo in
+      and-under wait (sound && clean) rest (λ t. ap₂ (λ (x y : Bool). x && y) (c t).0 (c t).1)
+      ∙ ap (λ (x : Bool). x && rest) b
+      ∙ ap (λ (x : Bool). x && (each_waits Dirty URLog m.sizes.words m.lines m.buffers.undo_redo && rest)) (sym within)
+      ∙ linear-consistent m lines
 
   -- a state outside its limits is not consistent
-  pub outside-limits : in_limits n ≡ false → false ≡ consistent lent
-  outside-limits e = parts-consistent false _ _ _ (sym e) refl (λ t. (refl, refl))
+  pub outside-limits : in_limits m ≡ false → false ≡ consistent m
+  unfolding linear
+  outside-limits e =
+      ap (λ (x : Bool). x && (each_waits Dirty URLog m.sizes.words m.lines m.buffers.undo_redo &&
+      (all (line_sound m.opened) after && each_waits Clean ULog m.sizes.words after m.buffers.redo))) (sym e)
+      ∙ linear-consistent m lines

@@ -8,6 +8,7 @@ use native.Mathlib.Omega.{arith}
 use borrow.Author.Tests.{lt-ltb, le-ltb, eq-eqb, ne_eqb, ltb-true, eqb-true}
 use lib.Dec.{eqb, ltb}
 use lib.ListN.{length, get_or, set}
+use Rattle.std.specs.List.{list_all}
 use Rattle.parts.specs.declared.Entry.{Entry}
 use Rattle.parts.specs.declared.Line.{Line}
 use Rattle.parts.specs.FreeLine.{nobody, free_line}
@@ -40,6 +41,12 @@ pub all_both : {A : Type 0} (f g : A → Bool) (xs : List A) → all (λ x. f x 
 unfolding all
 all_both f g [] = refl
 all_both f g (x ∷ xs) = ap (λ (t : Bool). (f x && g x) && t) (all_both f g xs) ∙ shuffled (f x) (g x) (all f xs) (all g xs)
+
+-- std's word for the same test
+pub all-list : {A : Type 0} (f : A → Bool) (xs : List A) → list_all f xs ≡ all f xs
+unfolding all
+all-list f [] = refl
+all-list f (x ∷ xs) = ap (λ (t : Bool). f x && t) (all-list f xs)
 
 -- ---- the entries
 

@@ -1,19 +1,29 @@
-// The limits of a state's counts.
+// The limits of a state's numbers.
 ghost use Rattle.std.specs.Prelude.{◌≡◌};
+ghost use Rattle.model.specs.Consistent.{in_order};
+ghost use Rattle.state.specs.View.{view};
 ghost use Rattle.state.specs.Linear.{in_limits};
 
-use crate::Counts;
+use crate::Machine;
+use crate::lengths::is_width;
 use log_region::NUMBERS;
 
-// The counts are within their limits, head and tail in order.
-pub(crate) fn within_limits(n: Counts) -> bool
-    ensures { result ≡ in_limits n }
-{
-    if NUMBERS < n.head {
-        return false;
+impl Machine {
+    // "head ≤ tail ≤ head + L"
+    fn in_order(&self) -> bool
+        ensures { result ≡ in_order (view self.now) }
+    {
+        self.head <= self.tail && self.tail - self.head <= self.slots as u64
     }
-    let width = (8 <= n.words) & ((n.words <= 512) & (n.words % 8 == 0));
-    let log = (8 <= n.slots) & (n.slots <= 1024);
-    let order = (n.head <= n.tail) & (n.tail <= n.head + n.slots as u64);
-    (n.tail <= NUMBERS) & ((width & log) & (((n.undos <= 16) & (n.redos <= 32)) & order))
+
+    // The numbers are within their limits, head and tail in order.
+    #[tactic(auto, unfolding(crate::specs::Linear::in_limits))]
+    pub(crate) fn within_limits(&self) -> bool
+        ensures { result ≡ in_limits (view self.now) }
+    {
+        let numbers = (self.head <= NUMBERS) & (self.tail <= NUMBERS);
+        let sizes = is_width(self.words as usize) & (8 <= self.slots) & (self.slots <= 1024);
+        let entries = (self.undos.len <= 16) & (self.redos.len <= 32);
+        numbers & sizes & entries & self.in_order()
+    }
 }

@@ -1,53 +1,39 @@
-// The entries of the two buffers, and the words that they wait for.
-ghost use Rattle.std.specs.Prelude.{◌≡◌, [], ◌∷◌, ◌%◌, ◌≤◌, length};
-ghost use Rattle.buffers.specs.Waiting.{keyed};
-ghost use Rattle.state.specs.StateOf.{entries_lent};
-ghost use Rattle.state.specs.Linear.{awaited, mark_of, Walked};
+// The entries of a buffer, and the words that they wait for.
+ghost use Rattle.std.specs.Prelude.{◌≡◌, true};
+ghost use Rattle.parts.specs.States.{bits_of};
+ghost use Rattle.state.specs.Linear.{waits_for, each_waits, all_marked};
 
-use crate::awaited::Buffer;
-use buffers::{key_thread, key_word};
+use lines::{holder_of, mark, state_of};
+use parts::{Entry, Line, WordState};
 
-// One entry of the buffer waits for its word. If it does, the word is marked.
-fn waits(words: u16, holders: &[u8; 64], states: &mut [u16; 64], key: u16, buffer: Buffer) -> bool
-    requires { (words ≤ 512) × ((words % 8 ≡ 0) × (length states.old ≡ 64)) }
-    ensures { Walked (awaited buffer) (mark_of buffer) words holders.now states.old
-        (keyed key 0 0 ∷ []) result states.new }
+// The entry waits for its word: its thread holds the word's line, and the word is in the wanted state.
+#[tactic(auto, unfolding(crate::specs::Linear::waits_for))]
+fn waits_for(words: u16, lines: &[Line], entry: Entry, wanted: WordState) -> bool
+    ensures { result ≡ waits_for (bits_of wanted) words lines.now entry }
 {
-    let thread = key_thread(key);
-    let word = key_word(key);
-    if words <= word {
-        return false;
-    }
-    let at = (word / 8) as usize;
-    let place = (word % 8) as u64;
-    let line = states[at];
-    let found = buffer.waits_for(lines::state_at(line, place));
-    if !((thread < 8) & ((thread == holders[at]) & found)) {
-        return false;
-    }
-    states[at] = lines::with_state(line, place, buffer.mark());
-    true
+    entry.word < words
+        && entry.thread < 8
+        && entry.thread == holder_of(lines, entry.word)
+        && state_of(lines, entry.word) == wanted
 }
 
-// Each entry waits for its word, and no two for the same.
-pub(crate) fn each_waits<'a>(
+// Each entry waits for its word in the wanted state. The word of each is marked with the next state once it was looked
+// at, so that no other entry waits for it.
+pub(crate) fn each_waits(
     words: u16,
-    holders: &'a [u8; 64],
-    states: &mut [u16; 64],
-    count: usize,
-    keys: &'a [u16],
-    buffer: Buffer,
+    lines: &mut [Line],
+    entries: &[Entry],
+    wanted: WordState,
+    next: WordState,
 ) -> bool
-    requires { (words ≤ 512) × ((words % 8 ≡ 0) × ((length states.old ≡ 64) × (count ≤ length keys.now))) }
-    ensures { Walked (awaited buffer) (mark_of buffer) words holders.now states.old
-        (entries_lent count keys.now) result states.new }
+    ensures each { result ≡ each_waits (bits_of wanted) (bits_of next) words lines.old entries.now }
+    ensures marks { result ≡ true → lines.new ≡ all_marked (bits_of next) lines.old entries.now }
 {
-    let mut i = 0;
-    while i < count {
-        if !waits(words, holders, states, keys[i], buffer) {
+    for entry in entries {
+        if !waits_for(words, lines, *entry, wanted) {
             return false;
         }
-        i += 1;
+        mark(lines, entry.word, next);
     }
     true
 }

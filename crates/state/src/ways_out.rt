@@ -1,53 +1,48 @@
-// The ways out of a step that is not done: refused, or cut by a loss of supply, which leaves the lost state.
-ghost use Rattle.std.specs.Prelude.{◌≡◌, length, replicate};
-ghost use Rattle.state.specs.HandedBack.{lost_fields};
+// The ways out of a step: done, refused, or cut by a loss of supply, which leaves the lost state.
+ghost use Rattle.std.specs.Prelude.{◌≡◌, ℕ, List, OnOk, IsOk, length, replicate};
+ghost use Rattle.model.specs.Machine.{Memory};
+ghost use Rattle.model.specs.Step.{Step};
+ghost use Rattle.state.specs.View.{outcome_of, shown};
+ghost use Rattle.state.specs.HandedBack.{lost_fields, taken_fields, HandedBack};
+ghost use Rattle.state.specs.declared.refusals.Refusal.{Refusal};
+ghost use Rattle.state.specs.declared.refusals.Stop.TheVariants.{Refused, Cut};
+ghost use Rattle.state.specs.Ended.{ended, Ends};
 
-use crate::memory::clear;
-use crate::{CUT, Machine, Outcome};
-use buffers::{RedoBuffer, UndoBuffer};
-use lines::Lines;
+use crate::{Machine, Made, Stop};
 
-// "dark: one fixed value, its other numbers 0"
-pub fn lost() -> Machine
-    ensures { result ≡ lost_fields }
-{
-    Machine {
-        lost: true,
-        words: 0,
-        slots: 0,
-        head: 0,
-        tail: 0,
-        opened: [false; 8],
-        lines: Lines {
-            holders: [0; 64],
-            dirty: [false; 64],
-            states: [0; 64],
-        },
-        undos: UndoBuffer::empty(),
-        redos: RedoBuffer::empty(),
-    }
-}
-
-// "State, buffers and count are unchanged"
-pub fn refused(number: u64, supply: u64, state: Machine) -> Outcome
-    ensures { result ≡ record { answer = number; left = supply; state = state } }
-{
-    Outcome {
-        answer: number,
-        left: supply,
-        state: state,
-    }
-}
-
-// "the answer is 255 (cut), the count left is 0, all working words become 0, and the returned state is dark"
-pub fn cut(working: &mut [u64]) -> Outcome
-    ensures value { result ≡ record { answer = 255; left = 0; state = lost_fields } }
-    ensures working_after { working.new ≡ replicate (length working.old) 0 }
-{
-    clear(working);
-    Outcome {
-        answer: CUT,
-        left: 0,
-        state: lost(),
+impl Machine {
+    // Ends a step that changed the state in place. "The answer is 255 (cut), the count left is 0, all working words
+    // become 0, and the returned state is dark."
+    pub fn end(&mut self, end: Result<u64, Stop>, working: &mut [u64], supply: u64) -> Made
+        ensures comes { (home log : List ℕ) → shown (outcome_of result self.new) home working.new log
+            ≡ ended supply end self.old home working.old log }
+        ensures done { OnOk result.answer (IsOk end × (self.new ≡ self.old)) }
+        ensures refused { (n : Refusal) → end ≡ Err (Refused n)
+            → (result ≡ record { answer = Err (Refused n); left = supply }) × (self.new ≡ self.old)
+            × (working.new ≡ working.old) }
+        ensures cut { end ≡ Err Cut → (result ≡ record { answer = Err Cut; left = 0 }) × (self.new ≡ lost_fields)
+            × (working.new ≡ replicate (length working.old) 0) }
+        ensures handed_back { (s : Step) (before : Machine) (mem : Memory) (home log : List ℕ)
+            → Ends s supply before mem end self.old home working.old log
+            → HandedBack (taken_fields s before) (outcome_of result self.new) }
+    {
+        match end {
+            Ok(left) => Made {
+                answer: Ok(()),
+                left,
+            },
+            Err(Stop::Refused(refusal)) => Made {
+                answer: Err(Stop::Refused(refusal)),
+                left: supply,
+            },
+            Err(Stop::Cut) => {
+                working.fill(0);
+                *self = Machine::lost();
+                Made {
+                    answer: Err(Stop::Cut),
+                    left: 0,
+                }
+            }
+        }
     }
 }

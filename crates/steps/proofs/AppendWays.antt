@@ -1,5 +1,6 @@
 -- What a step that only appends records hands back, once it is not refused.
 use Prim.Native.Nat.{ℕ, ◌-◌, ◌*◌, ◌≤◌, ◌<◌}
+use Rattle.std.specs.Prelude.{Ok, Err}
 use mathlib.Core.Path.{◌≡◌, sym, ◌∙◌, ap, subst}
 use mathlib.Core.List.{List, map}
 use native.Mathlib.Omega.{arith}
@@ -16,9 +17,10 @@ use Rattle.model.proofs.Rows.{Room}
 use Rattle.model.proofs.Fit.{Fit}
 use Rattle.log_region.specs.Appended.{Appended}
 use Rattle.state.specs.declared.Machine.{Machine}
-use Rattle.state.specs.declared.Outcome.{Outcome}
+use Rattle.state.specs.declared.refusals.Stop.TheVariants.{Cut}
 use Rattle.state.specs.View.{view}
-use Rattle.steps.proofs.Outcome.{IsCut, Comes, Way, done-way, cut-way}
+use Rattle.state.specs.Ended.{Ends}
+use Rattle.steps.proofs.Outcome.{Way, done-way, cut-way}
 
 -- the same records, by another count
 pub appended-of : {c n rest : ℕ} {before log : List ℕ} (f : ℕ → List Record) (k l : ℕ) → k ≡ l → Appended c before n (f k) log rest
@@ -36,39 +38,38 @@ pub record AppendWay (s : Step) (m : Model) (mem : Memory) (records : List Recor
   pub fits : Fit m mem
   pub room : Room m (length records)
 
-module _ {s : Step} {m : Model} {mem : Memory} {records : List Record} {next : Model} {working : List ℕ}
-    (appends : AppendWay s m mem records next working) (c : ℕ) where
+module _ {s : Step} (before : Machine) {mem : Memory} {records : List Record} {next : Model} {working : List ℕ}
+    (appends : AppendWay s (view before) mem records next working) (c : ℕ) where
   -- its stores, three for each record
   abbrev stores : List Store
-  stores = records_stores (slots_of mem.log) m.span.tail records
+  stores = records_stores (slots_of mem.log) before.tail records
 
   three : length stores ≡ 3 * length records
   three =
       let fits = appends.fits in
-      size-of-records (slots_of mem.log) m.span.tail records (omega (arith, fits.slots, fits.clauses.fewest))
+      size-of-records (slots_of mem.log) before.tail records (omega (arith, fits.slots, fits.clauses.fewest))
       (appends.room.numbered fits.clauses.tail)
 
-  made : puts_of (slots_of mem.log) m.span.tail (map append records) ≡ map in_log stores
-  made = puts-append (slots_of mem.log) m.span.tail records
+  made : puts_of (slots_of mem.log) before.tail (map append records) ≡ map in_log stores
+  made = puts-append (slots_of mem.log) before.tail records
 
-  size : length (puts_of (slots_of mem.log) m.span.tail (map append records)) ≡ 3 * length records
+  size : length (puts_of (slots_of mem.log) before.tail (map append records)) ≡ 3 * length records
   size = rw (made, length-map) three
 
   -- what the first c of them leave
   left_by : (log after : List ℕ) → log ≡ stored_under c mem.log stores → record { home = mem.home; working = after; log = log }
-      ≡ written mem (take c (puts_of (slots_of mem.log) m.span.tail (map append records))) after
+      ≡ written mem (take c (puts_of (slots_of mem.log) before.tail (map append records))) after
   left_by log after e = rw (e, made, written-log mem c stores after)
 
   -- done: the supply was enough
-  pub append-done : {taken : Machine} → (k : ℕ) (r : Outcome) (log : List ℕ) → length records ≡ k → 3 * k ≤ c
-      → Appended c mem.log m.span.tail records log r.left
-      → r.answer ≡ 0 → view r.state ≡ next → Comes s c m mem taken r mem.home working log
-  append-done {taken} k r log count h a answer state =
-      done-way appends.way c r mem.home log (rw (size, count) h) answer (a.left ∙ ap (λ n. c - n) (three ∙ sym size)) state
+  pub append-done : (k left : ℕ) (after : Machine) (log : List ℕ) → length records ≡ k → 3 * k ≤ c
+      → Appended c mem.log before.tail records log left → view after ≡ next → Ends s c before mem (Ok left) after mem.home working log
+  append-done k left after log count h a state =
+      done-way before appends.way c mem.home log left after (rw (size, count) h) (a.left ∙ ap (λ n. c - n) (three ∙ sym size)) state
       (left_by log working a.log)
 
   -- cut: it was not
-  pub append-cut : {taken : Machine} → (k : ℕ) (r : Outcome) (after log : List ℕ) (rest : ℕ) → length records ≡ k → c < 3 * k
-      → Appended c mem.log m.span.tail records log rest → IsCut r → after ≡ cleared mem → Comes s c m mem taken r mem.home after log
-  append-cut {taken} k r after log rest count h a answer clear =
-      cut-way appends.way c r mem.home log after (rw (size, count) h) answer clear (left_by log (cleared mem) a.log)
+  pub append-cut : (k rest : ℕ) (after : Machine) (now log : List ℕ) → length records ≡ k → c < 3 * k
+      → Appended c mem.log before.tail records log rest → length now ≡ length mem.working → Ends s c before mem (Err Cut) after mem.home now log
+  append-cut k rest after now log count h a same =
+      cut-way before appends.way c mem.home log after now (rw (size, count) h) same (left_by log (cleared mem) a.log)

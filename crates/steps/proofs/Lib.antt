@@ -1,13 +1,12 @@
--- Laws that the proofs of the functions share.
+-- Laws of the steps.
 pub mod Outcome
 pub mod AppendWays
-pub mod LoggingOldest
-pub mod DeleteStep
 pub mod LineRows
 pub mod WritingBack
-pub mod Eviction
+pub mod DeleteStep
+pub mod LoggingOldest
+pub mod Refused
 pub mod StoreParts
 pub mod StoreRows
 pub mod Commits
-pub mod Sound
-pub mod TakesState
+pub mod Eviction

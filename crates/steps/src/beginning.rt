@@ -2,29 +2,34 @@
 ghost use Rattle.std.specs.Prelude.{◌≡◌};
 ghost use Rattle.model.specs.Machine.{Memory};
 ghost use Rattle.model.specs.Refusals.{number_of, state_rows};
-ghost use Rattle.model.specs.Step.{begin, stepped};
-ghost use Rattle.state.specs.View.{view, shown};
-ghost use Rattle.state.specs.HandedBack.{HandedBack};
+ghost use Rattle.model.specs.Step.{begin};
+ghost use Rattle.model.specs.Steps.{begin_rows};
+ghost use Rattle.state.specs.Answers.{refusal_number};
+ghost use Rattle.state.specs.View.{view};
+ghost use Rattle.state.specs.Ended.{Ends};
 
-use crate::refusals::refuse;
-use state::{BUSY, DONE, Machine, Outcome, THREAD, refused};
+use state::{Machine, Refusal, Stop};
+
+// The rows of a begin.
+fn refusal(state: &Machine, thread: u64) -> Result<(), Refusal>
+    ensures { refusal_number result ≡ number_of (begin_rows (view state.now) thread) }
+{
+    if 7 < thread {
+        return Err(Refusal::Thread);
+    }
+    if state.opened[thread as usize] {
+        return Err(Refusal::Busy);
+    }
+    Ok(())
+}
 
 // The step, of a state that is neither lost nor inconsistent.
-pub(crate) fn begun(mut state: Machine, supply: u64, thread: u64) -> Outcome
-    requires { number_of (state_rows (view state)) ≡ 0 }
-    ensures log_value { (mem : Memory) → shown result mem.home mem.working mem.log
-        ≡ stepped (begin thread) supply (view state) mem }
-    ensures handed_back { HandedBack state result }
+pub(crate) fn begun(state: &mut Machine, supply: u64, thread: u64) -> Result<u64, Stop>
+    requires { number_of (state_rows (view state.old)) ≡ 0 }
+    ensures { (mem : Memory)
+        → Ends (begin thread) supply state.old mem result state.new mem.home mem.working mem.log }
 {
-    let t = (thread % 8) as usize;
-    let number = refuse(7 < thread, THREAD, refuse(state.opened[t], BUSY, 0));
-    if number != 0 {
-        return refused(number, supply, state);
-    }
-    state.opened[t] = true;
-    Outcome {
-        answer: DONE,
-        left: supply,
-        state: state,
-    }
+    refusal(state, thread)?;
+    state.opened[thread as usize] = true;
+    Ok(supply)
 }

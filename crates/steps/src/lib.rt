@@ -1,5 +1,5 @@
-// The nine steps of document 01, as functions of a state by its fields. Each hands back what the model's definition of
-// the step gives.
+// The nine steps of document 01, as functions of a state that they change in place. Each ends as the model's definition
+// of the step does.
 #![tactic(auto)]
 
 mod beginning;
@@ -7,6 +7,7 @@ mod committing;
 mod deleting;
 mod evicting;
 mod log_oldest;
+mod logged;
 mod refusals;
 mod stepping;
 mod storing;

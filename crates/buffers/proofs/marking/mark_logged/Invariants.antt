@@ -1,12 +1,8 @@
--- `mark_logged` meets its contract. Before each turn the words passed are marked.
-use Prim.Native.Nat.{◌-◌, ◌≤◌}
+-- `mark_logged` meets its contract. Before each turn the words of the entries passed are marked.
 use mathlib.Core.Path.{◌≡◌}
-use lib.ListN.{length, take}
-use Rattle.buffers.specs.Records.{states_logged}
+use lib.ListN.{take}
+use Rattle.model.specs.Machine.{all_logged}
 use Rattle.buffers.proofs.marking.mark_logged.Given as goal
 
-abbrev pub invariant-loop-i : goal.invariant-loop-i
-invariant-loop-i l = (l.i ≤ l.end) × (length l.initial.states ≡ 64 → length l.keys ≡ 16 → l.states ≡ states_logged (take l.i l.keys) l.initial.states)
-
-abbrev pub decreases-loop-i : goal.decreases-loop-i
-decreases-loop-i l = l.end - l.i
+abbrev pub invariant-loop-entry : goal.invariant-loop-entry
+invariant-loop-entry l = l.lines ≡ all_logged (take l.entry-index l.entries) l.initial.lines

@@ -24,16 +24,15 @@ pub loop-j-init : goal.loop-j-init
 unfolding listed
 loop-j-init c =
     let a = c.args in
-    (omega arith, omega arith, (under_none a.supply a.home.now [] refl).1)
+    (omega arith, (under_none a.supply a.home.now [] refl).1)
 
 pub loop-j-preserved : goal.loop-j-preserved
 loop-j-preserved c =
     let l = c.loop-j in
     let a = c.args in
     let s = c.store-left in (
-      omega arith,
       omega (arith, s.ensures.value),
-      s.ensures.region_after ∙ rw (l.invariant.1, l.invariant.2) (stores-next a.supply a.home.now (word_write a.working.now a.line) l.j),
+      s.ensures.region_after ∙ rw (l.invariant.0, l.invariant.1) (stores-next a.supply a.home.now (word_write a.working.now a.line) l.j),
     )
 
 pub returns : goal.returns
@@ -46,9 +45,9 @@ returns c =
     let eight = length-listed 8 (word_write a.working.now a.line) in
     rw stores record {
       value = omega arith;
-      home_after = rw e at l.invariant.2;
+      home_after = rw e at l.invariant.1;
     }
 
 pub shape_of-home : goal.shape_of-home
 shape_of-home c =
-    ap length c.loop-j.invariant.2 ∙ length-stored _ _
+    ap length c.loop-j.invariant.1 ∙ length-stored _ _

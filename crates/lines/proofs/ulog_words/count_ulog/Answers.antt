@@ -1,41 +1,20 @@
--- `count_ulog` meets its contract. `count` is how many of the first `j` words are ULog.
-use mathlib.Core.Path.{◌≡◌, refl, sym, ◌∙◌}
-use mathlib.Core.Bool.{true, false}
-use native.Mathlib.Omega.{arith}
-use borrow.Author.Tests.{eq-eqb, ne_eqb}
+-- `count_ulog` meets its contract.
+use mathlib.Core.Path.{refl, sym, ap, ◌∙◌}
+use Rattle.std.proofs.Common.{rules, tests}
+use Rattle.std.proofs.lemmas.Iterator.{YieldsList-from_range}
+use Rattle.std.proofs.lemmas.Iterator.Consumers.{YieldsList-from_filter, count_from_yields_List}
 use lib.Dec.{eqb}
+use lib.ListN.{length}
 use Rattle.parts.specs.Listed.{listed}
 use Rattle.parts.specs.States.{state_at, ULog}
-use Rattle.model.specs.Lists.{keep}
-use Rattle.lines.proofs.LineWords.{count_next}
+use Rattle.model.specs.Lists.{up_to}
+use Rattle.lines.proofs.LineWords.{keep-filter}
 use Rattle.lines.proofs.ulog_words.count_ulog.Goals as goal
-use Rattle.lines.proofs.ulog_words.count_ulog.Goals.{in-3, in_default}
 
-pub loop-j-init : goal.loop-j-init
-unfolding listed keep
-loop-j-init c = (omega arith, omega arith, refl)
-
-pub loop-j-preserved : goal.loop-j-preserved
-loop-j-preserved c =
-    let states = c.args.states in
-    let l = c.loop-j in
-    let k = c.state_at in
-    let next = count_next (λ i. eqb (state_at states i) ULog) l.j in
-    elim c.match-state_at.branch [
-      | in-3 w ↦
-          let more = next true (eq-eqb (state_at states l.j) ULog (sym k.ensures ∙ w.in-3.is)) in
-          (omega arith, omega arith, omega arith)
-      | in_default w ↦
-          let other : k.result ≡ ULog → ⊥ = omega arith in
-          let same = next false (ne_eqb (state_at states l.j) ULog (λ e. other (k.ensures ∙ e))) in
-          (omega arith, omega arith, omega arith)
-    ]
-
-pub returns : goal.returns
-returns c =
-    let l = c.loop-j in
-    let e : l.j ≡ 8 = omega arith in
-    record {
-      upper_bound = omega arith;
-      value = rw e at l.invariant.2;
-    }
+pub returns-clause-value : goal.returns-clause-value
+unfolding listed
+returns-clause-value c =
+    count_from_yields_List c.filter.result _ c.count.ensures.ran
+    (YieldsList-from_filter _ (λ j. eqb (state_at c.args.states j) ULog) (YieldsList-from_range 0 8 8 c.filter.ensures.source refl) c.filter.ensures.closure
+    (λ x b q k. search (rules, tests)))
+    ∙ sym (ap length (keep-filter (λ j. eqb (state_at c.args.states j) ULog) (up_to 8)))

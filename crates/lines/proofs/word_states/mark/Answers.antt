@@ -1,20 +1,34 @@
 -- `mark` meets its contract. Past the last line nothing is replaced.
-use Prim.Native.Nat.{◌/◌, ◌%◌}
-use mathlib.Core.Path.{sym, ap}
+use Prim.Native.Nat.{ℕ, ◌/◌, ◌%◌, ◌<◌}
+use mathlib.Core.Path.{◌≡◌, sym}
+use mathlib.Core.Bool.{cond}
+use mathlib.Core.List.{List}
 use native.Mathlib.Omega.{arith}
 use borrow.Author.Tests.{lt-ltb}
-use lib.ListN.{get_or, set}
+use lib.Dec.{ltb}
+use lib.ListN.{length, set}
 use lib.Seq.{set_out}
-use Rattle.parts.specs.States.{with_state}
+use Rattle.parts.specs.declared.Line.{Line}
+use Rattle.parts.specs.States.{bits_of, with_state}
+use Rattle.lines.specs.Lines.{line_at}
+use Rattle.lines.proofs.LinesInUse.{changed-there}
+use Rattle.model.specs.Machine.{states_as, marked, changed}
 use Rattle.lines.proofs.word_states.mark.Goals as goal
 
-pub returns-then-at-lt64 : goal.returns-then-at-lt64
-returns-then-at-lt64 c whole =
-    let a = c.args in
-    ap (set a.states.now (a.word / 8))
-    (rw (lt-ltb (a.word % 8) 8 (omega arith), lt-ltb (a.state % 4) 4 (omega arith)) at c.with_state.ensures)
+-- the line that is put has the other states
+put : (s w : ℕ) (ls : List Line) (states : ℕ) → w / 8 < length ls
+    → states ≡ cond (ltb (w % 8) 8) (with_state (line_at ls (w / 8)).states (w % 8) s) (line_at ls (w / 8)).states
+    → set ls (w / 8) (states_as states (line_at ls (w / 8))) ≡ marked s w ls
+unfolding marked
+put s w ls states below e =
+    let small : w % 8 < 8 = omega arith in
+    rw (e, lt-ltb (w % 8) 8 small) (changed-there (λ line. states_as (with_state line.states (w % 8) s) line) ls (w / 8) below)
 
-pub returns-else-at-lt64 : goal.returns-else-at-lt64
-returns-else-at-lt64 c whole =
+pub returns-then-at-lines : goal.returns-then-at-lines
+returns-then-at-lines c =
     let a = c.args in
-    sym (set_out a.states.now (a.word / 8) (with_state (get_or a.states.now (a.word / 8) 0) (a.word % 8) (a.state % 4)) (omega arith))
+    put (bits_of a.state) a.word a.lines.now c.with_state.result c.if-at-lines.true c.with_state.ensures
+
+pub returns-else-at-lines : goal.returns-else-at-lines
+unfolding marked changed
+returns-else-at-lines c = sym (set_out c.args.lines.now (c.args.word / 8) _ (omega arith))

@@ -25,9 +25,9 @@ returns c =
         c.store-after_redo.ensures.value,
         c.store-after_undo.ensures.region_after,
         c.store-after_undo.ensures.value,
-        c.undo_of-undo.ensures,
-        c.redo_of-redo.ensures,
-        c.header_of-header.ensures,
+        c.undo.ensures,
+        c.redo.ensures,
+        c.header-header.ensures,
       )
           (one_by_one
           a.supply

@@ -1,5 +1,5 @@
 -- `run` meets its contract. Before each turn the steps passed are made.
-use Prim.Native.Nat.{ℕ, ◌+◌, ◌-◌, ◌*◌, ◌^◌, ◌≤◌, ◌<◌}
+use Prim.Native.Nat.{ℕ, ◌+◌, ◌*◌, ◌^◌, ◌≤◌, ◌<◌}
 use mathlib.Core.Path.{◌≡◌, refl, ◌∙◌}
 use mir.Syntax.{w64}
 use mir.Val.{Fits}
@@ -8,7 +8,8 @@ use lib.ListN.{length-set}
 use Rattle.model.specs.Plan.{Outcome}
 use Rattle.model.specs.Step.{stepped}
 use Rattle.model.specs.Run.{Timed}
-use Rattle.machine.specs.Answers.{view, shown}
+use Rattle.std.specs.Prelude.{Ok}
+use Rattle.machine.specs.Answers.{view, shown, answer_of}
 use Rattle.state.specs.View.{memory}
 use Rattle.runner.specs.Running.{Script, script, timed_at, reported}
 use Rattle.runner.proofs.StepsMade.{left-of, alike, upto-none, upto-more, upto_all, may-run, run-made, run-refused}
@@ -21,17 +22,11 @@ below e h = omega arith
 same : {i n : ℕ} → i ≤ n → n ≤ i → i ≡ n
 same h k = omega arith
 
-less : {i n : ℕ} → i < n → n - (i + 1) < n - i
-less h = omega arith
-
 more : {i n : ℕ} → i < n → i + 1 ≤ n
 more h = omega arith
 
 offset : {i n : ℕ} → i < n → n * 8 < 2 ^ 63 → Fits w64 (i * 8)
 offset h k = omega arith
-
-next : {i n : ℕ} → i < n → n * 8 < 2 ^ 63 → Fits w64 (i + 1)
-next h k = omega arith
 
 pub returns-then-not-is_runnable : goal.returns-then-not-is_runnable
 returns-then-not-is_runnable c =
@@ -45,7 +40,7 @@ returns-then-not-is_runnable c =
           test.result
           test.ensures
           c.if-not-is_runnable.true;
-      state_value = λ some. refl;
+      kept = refl;
     }
 
 pub loop-i-init : goal.loop-i-init
@@ -86,8 +81,8 @@ bounds-answers-i c =
 pub overflow_sub-stores : goal.overflow_sub-stores
 overflow_sub-stores c =
     let l = c.loop-i in
-    let r = c.step-made in
-    left-of (shown r.result r.new.home r.new.working r.new.log) _ _ _
+    let r = c.make-made in
+    left-of (shown (answer_of r.result r.new.self) r.new.home r.new.working r.new.log) _ _ _
     (memory l.home l.working l.log)
     r.ensures.log_after
 
@@ -101,14 +96,6 @@ bounds-stores-i c =
     let l = c.loop-i in
     below (l.invariant.6 ∙ l.invariant.8.stores) c.loop-i-test.true
 
-pub overflow_add-i : goal.overflow_add-i
-overflow_add-i c =
-    next c.loop-i-test.true c.loop-i.invariant.1
-
-pub loop-i-smaller : goal.loop-i-smaller
-loop-i-smaller c =
-    less c.loop-i-test.true
-
 pub loop-i-preserved : goal.loop-i-preserved
 unfolding timed_at
 loop-i-preserved c =
@@ -116,9 +103,9 @@ loop-i-preserved c =
     let l = c.loop-i in
     let u = l.invariant in
     let h = c.loop-i-test.true in
-    let r = c.step-made in
+    let r = c.make-made in
     let f : ℕ → Timed = timed_at (script a.kinds.now a.threads.now a.places.now a.values.now a.supplies.now) in
-    let out : Outcome = shown r.result r.new.home r.new.working r.new.log in
+    let out : Outcome = shown (answer_of r.result r.new.self) r.new.home r.new.working r.new.log in
     let made : out ≡ stepped (f l.i).step (f l.i).supply (view l.state) (memory l.home l.working l.log) =
     rw (← c.step_at-step.ensures) r.ensures.log_after in (
       more h,
@@ -130,10 +117,11 @@ loop-i-preserved c =
       simp length-set u.6,
       u.7,
       u.8,
-      upto-more _ f l.i _ _ (view l.state) (memory l.home l.working l.log) l.answers l.stores out u.9
+      rw c.answer_number.ensures
+          (upto-more _ f l.i _ _ (view l.state) (memory l.home l.working l.log) l.answers l.stores out u.9
           (below u.8.answers h)
           (below u.8.stores h)
-          made,
+          made),
     )
 
 pub returns : goal.returns
@@ -141,13 +129,13 @@ returns c =
     let l = c.loop-i in
     let n = l.invariant.8 in record {
       stores_after = run-made _ _ _ _ _
-          (reported (record { answer = 0; state = l.state }) l.home l.working l.log l.answers l.stores)
+          (reported (record { answer = Ok tt; state = l.state }) l.home l.working l.log l.answers l.stores)
           l.invariant.7
           (upto_all _ _ _ _ l.i _ (view l.state) (memory l.home l.working l.log) l.answers l.stores l.invariant.9
           (same l.invariant.0 c.loop-i-test.false)
           n.answers
           n.stores);
-      state_value = λ some. absurd (some refl);
+      kept = tt;
     }
 
 pub offset_bounds-supplies-i : goal.offset_bounds-supplies-i
@@ -158,8 +146,8 @@ pub bounds-supplies-i : goal.bounds-supplies-i
 bounds-supplies-i c =
     below c.loop-i.invariant.8.supplies c.loop-i-test.true
 
-pub step-made-requires : goal.step-made-requires
-step-made-requires c =
+pub make-made-requires : goal.make-made-requires
+make-made-requires c =
     tt
 
 pub shape_of-home : goal.shape_of-home

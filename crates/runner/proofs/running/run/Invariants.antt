@@ -1,5 +1,5 @@
 -- `run` meets its contract. Before each turn the steps passed are made.
-use Prim.Native.Nat.{◌-◌, ◌*◌, ◌^◌, ◌≤◌, ◌<◌}
+use Prim.Native.Nat.{◌*◌, ◌^◌, ◌≤◌, ◌<◌}
 use mathlib.Core.Path.{◌≡◌}
 use mathlib.Core.Bool.{true}
 use lib.ListN.{length}
@@ -25,7 +25,3 @@ invariant-loop-i l =
     (memory l.home l.working l.log)
     l.answers
     l.stores
-
-abbrev pub decreases-loop-i : goal.decreases-loop-i
-decreases-loop-i l =
-    length l.kinds - l.i

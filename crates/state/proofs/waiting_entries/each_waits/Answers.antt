@@ -1,40 +1,24 @@
--- `waiting_entries::each_waits` meets its contract: what is found from the entry at `i` on is what is found of all.
-use native.Mathlib.Omega.{arith}
-use Rattle.state.specs.Linear.{awaited, mark_of}
-use Rattle.state.proofs.Walking.{reached-start, reached-more, reached-fails, reached-end}
+-- What is found from the entry at the index on is what is found of all.
+use mathlib.Core.Path.{sym, ◌∙◌}
+use Rattle.state.proofs.Walking.{walk-stops, walk-on, walk-end, marks-on, marks-end}
 use Rattle.state.proofs.waiting_entries.each_waits.Goals as goal
 
-pub loop-i-init : goal.loop-i-init
-loop-i-init c =
-    let a = c.args in
-    let b = a.buffer in
-    (omega arith, reached-start a.count a.keys.now (awaited b) (mark_of b) a.words a.holders.now a.states.now)
+pub returns-then-not-waits_for-clause-each : goal.returns-then-not-waits_for-clause-each
+returns-then-not-waits_for-clause-each c =
+    let waits = sym c.waits_for.ensures ∙ c.if-not-waits_for.true in
+    sym (c.loop-entry.invariant.each ∙ walk-stops _ _ _ _ _ _ _ c.loop-entry-test.true waits)
 
-pub returns-then-not-waits : goal.returns-then-not-waits
-returns-then-not-waits c =
-    let head = c.loop-i in
-    let a = c.args in
-    let b = a.buffer in
-    let called = c.waits in
-    reached-fails a.count a.keys.now (awaited b) (mark_of b) a.words a.holders.now a.states.now head.i
-    head.states called.new.states called.result c.loop-i-test.true head.invariant.1
-    called.ensures c.if-not-waits.true
+pub loop-entry-preserved : goal.loop-entry-preserved
+loop-entry-preserved c =
+    let head = c.loop-entry in
+    let waits = sym c.waits_for.ensures ∙ c.if-not-waits_for.false in
+    record {
+      each = head.invariant.each ∙ walk-on _ _ _ _ _ _ _ _ c.loop-entry-test.true waits c.mark.ensures;
+      marks = head.invariant.marks ∙ marks-on _ _ _ _ _ _ c.loop-entry-test.true c.mark.ensures;
+    }
 
-pub loop-i-preserved : goal.loop-i-preserved
-loop-i-preserved c =
-    let head = c.loop-i in
-    let a = c.args in
-    let b = a.buffer in
-    let called = c.waits in (
-      omega arith,
-      reached-more a.count a.keys.now (awaited b) (mark_of b) a.words a.holders.now a.states.now head.i
-          head.states called.new.states called.result c.loop-i-test.true head.invariant.1
-          called.ensures c.if-not-waits.false,
-    )
+pub returns-clause-each : goal.returns-clause-each
+returns-clause-each c = sym (c.loop-entry.invariant.each ∙ walk-end _ _ _ _ _ _ c.loop-entry-test.false)
 
-pub returns : goal.returns
-returns c =
-    let a = c.args in
-    let b = a.buffer in
-    reached-end a.count a.keys.now (awaited b) (mark_of b) a.words a.holders.now a.states.now
-    c.loop-i.i c.loop-i.states c.loop-i-test.false c.loop-i.invariant.1
+pub returns-clause-marks : goal.returns-clause-marks
+returns-clause-marks c = λ _. sym (c.loop-entry.invariant.marks ∙ marks-end _ _ _ _ c.loop-entry-test.false)

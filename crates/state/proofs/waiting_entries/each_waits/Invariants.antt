@@ -1,12 +1,14 @@
--- `waiting_entries::each_waits` meets its contract: what is found from the entry at `i` on is what is found of all.
-use Prim.Native.Nat.{◌-◌, ◌≤◌}
-use Rattle.state.specs.Linear.{awaited, mark_of}
-use Rattle.state.proofs.Walking.{ReachedAt}
+-- What is found from the entry at the index on is what is found of all.
+use mathlib.Core.Path.{◌≡◌}
+use lib.ListN.{drop}
+use Rattle.parts.specs.States.{bits_of}
+use Rattle.state.specs.Linear.{each_waits, all_marked}
 use Rattle.state.proofs.waiting_entries.each_waits.Given as goal
 
-abbrev pub invariant-loop-i : goal.invariant-loop-i
-invariant-loop-i l =
-    (l.i ≤ l.count) × ReachedAt l.count l.keys (awaited l.buffer) (mark_of l.buffer) l.words l.holders l.initial.states l.i l.states
-
-abbrev pub decreases-loop-i : goal.decreases-loop-i
-decreases-loop-i l = l.count - l.i
+abbrev pub invariant-loop-entry : goal.invariant-loop-entry
+invariant-loop-entry l =
+    let rest = drop l.entry-index l.entries in record {
+      each : each_waits (bits_of l.wanted) (bits_of l.next) l.words l.initial.lines l.entries
+          ≡ each_waits (bits_of l.wanted) (bits_of l.next) l.words l.lines rest;
+      marks : all_marked (bits_of l.next) l.initial.lines l.entries ≡ all_marked (bits_of l.next) l.lines rest;
+    }

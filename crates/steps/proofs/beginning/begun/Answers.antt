@@ -1,69 +1,42 @@
--- `beginning::begun` meets its contract: its two own rows, one before the other; without one that applies the thread's transaction is open.
-use Prim.Native.Nat.{ℕ, ◌%◌, ◌≤◌}
-use mathlib.Core.Path.{◌≡◌, refl, sym, ◌∙◌}
-use mathlib.Core.Bool.{true, false, cond}
-use mathlib.Core.List.{[]}
-use native.Mathlib.Decide.{dec_lt}
-use native.Mathlib.Nat.{sub-zero}
-use native.Mathlib.Omega.{arith}
-use borrow.Author.Tests.{lt-ltb, ltb-false}
-use lib.Dec.{ltb}
-use lib.ListN.{get_or, set}
-use Rattle.log_region.proofs.Stored.{stored-none}
-use Rattle.model.specs.Machine.{Machine, Memory, with_opened}
-use Rattle.model.specs.Plan.{puts_of, home_part, log_part, written}
-use Rattle.model.specs.Refusals.{number_of, state_rows}
+-- `begun` meets its contract: refused, or done. It is lent no buffers, and never cut.
+use Prim.Native.Nat.{ℕ, ◌≤◌, ◌<◌}
+use mathlib.Core.Path.{◌≡◌, refl, sym}
+use borrow.Author.Tests.{ltb-false}
+use Rattle.model.specs.Machine.{Machine, Memory}
+use Rattle.model.specs.Refusals.{number_of}
 use Rattle.model.specs.Steps.{begin_rows, begin_next}
-use Rattle.model.specs.Step.{begin, stepped}
-use Rattle.model.proofs.Outcomes.{passed-own, way-done}
+use Rattle.model.specs.Plan.{puts_of, home_part, log_part, written}
+use lib.Seq.{take-nil}
+use Rattle.log_region.proofs.Stored.{stored-none}
+use Rattle.model.proofs.Rows.{none-apply, own-refusals}
 use Rattle.state.specs.View.{view, memory}
-use Rattle.state.proofs.HandedBack.{done-back}
-use Rattle.steps.proofs.Outcome.{Comes, refused-way}
+use native.Mathlib.Omega.{arith}
+use Rattle.std.specs.Prelude.{[]}
+use Rattle.model.specs.Step.{begin}
+use Rattle.steps.proofs.Outcome.{Way, refused-way, done-way}
+use Rattle.steps.proofs.Refused.{handed-on}
 use Rattle.steps.proofs.beginning.begun.Goals as goal
-use Rattle.steps.proofs.beginning.begun.Goals.{After-refuse-number}
 
--- The code looks at thread t modulo 8, which is t unless the row before it applies.
-begin-number : (m : Machine) (t n : ℕ) → n ≡ cond (ltb 7 t) 4 (cond (get_or m.opened (t % 8) false) 7 0) → n ≡ number_of (begin_rows m t)
-unfolding number_of
-begin-number m t n e =
-    elim (dec_lt 7 t) [
-      | yes p ↦ e ∙ rw (lt-ltb 7 t p)
-      | no q ↦
-          let f : t % 8 ≡ t = omega arith in
-          e ∙ rw f
-    ]
-
--- no store is made
-begin-done : (m : Machine) (t n c : ℕ) (mem : Memory) → number_of (state_rows m) ≡ 0 → n ≡ number_of (begin_rows m t) → n ≡ 0
-    → record { answer = 0; left = c; machine = with_opened (set m.opened (t % 8) true) m; memory = mem } ≡ stepped (begin t) c m mem
-unfolding puts_of home_part log_part written
-begin-done m t n c mem zero number none =
-    let known : t ≤ 7 = ltb-false 7 t (passed-own (begin t) c m mem zero n number none).0 in
-    let f : t % 8 ≡ t = omega arith in
-    rw f
-    (sym (way-done (begin t) c m mem zero n number none [] (begin_next m t) mem.working refl (omega arith) ∙ (simp (stored-none, sub-zero))))
-
--- the number that the code computes
-module _ (c : After-refuse-number) where
-  computed : c.refuse-number.result ≡ number_of (begin_rows (view c.args.state) c.args.thread)
-  computed =
-      begin-number (view c.args.state) c.args.thread c.refuse-number.result (simp (c.refuse-number.ensures, c.refuse.ensures))
-
-pub returns-then-number-ne0 : goal.returns-then-number-ne0
-returns-then-number-ne0 c =
+pub returns-in_err-refusal : goal.returns-in_err-refusal
+returns-in_err-refusal c mem =
     let a = c.args in
-    let way : (mem : Memory) → Comes (begin a.thread) a.supply (view a.state) mem a.state c.refused.result mem.home mem.working mem.log =
-    λ mem.
-    refused-way (begin a.thread) a.supply a.state mem c.requires c.refuse-number.result (computed (goal.at.returns-then-number-ne0 c).After-refuse-number) c.if-number-ne0.true refl
-    c.refused.result c.refused.ensures in
-    record {
-      log_value = λ mem. (way mem).0;
-      handed_back = (way (memory [] [] [])).1;
-    }
+    let n = c.in_err-refusal.field-0.0 in
+    rw (handed-on c.from_residual.result n c.from_residual.ensures)
+    (refused-way (begin a.thread) a.supply a.state.now mem c.requires n c.in_err-refusal.ensures refl refl)
+
+-- where no row applies the thread is known
+thread-known : (m : Machine) (mem : Memory) (t : ℕ) → 0 ≡ number_of (begin_rows m t) → t < 8
+thread-known m mem t none =
+    let known : t ≤ 7 = ltb-false 7 t (none-apply (begin_rows m t) (own-refusals (begin t) m mem) (sym none)).0 in
+    omega arith
+
+pub bounds-state-thread : goal.bounds-state-thread
+bounds-state-thread c = thread-known (view c.args.state.now) (memory [] [] []) c.args.thread c.in_ok-refusal.ensures
 
 pub returns : goal.returns
-returns c =
-    let a = c.args in record {
-      log_value = λ mem. begin-done (view a.state) a.thread c.refuse-number.result a.supply mem c.requires (computed (goal.at.returns c).After-refuse-number) c.if-number-ne0.false;
-      handed_back = done-back a.state _ refl;
-    }
+unfolding puts_of home_part log_part written
+returns c mem =
+    let a = c.args in
+    let way : Way (begin a.thread) (view a.state.now) mem [] (begin_next (view a.state.now) a.thread) mem.working =
+    record { first = c.requires; own = sym c.in_ok-refusal.ensures; work = refl } in
+    done-way a.state.now way a.supply mem.home mem.log a.supply _ (omega arith) (omega arith) refl (simp (take-nil, stored-none))

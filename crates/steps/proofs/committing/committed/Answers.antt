@@ -1,75 +1,126 @@
--- `committing::committed` meets its contract: refused by a row of its own, cut, or done.
-use Prim.Native.Nat.{ℕ, ◌≤◌}
-use mathlib.Core.Path.{◌≡◌, refl, sym, ap, ◌∙◌}
+-- `committed` meets its contract: refused by a row of its own, cut, or done.
+use Prim.Native.Nat.{◌+◌, ◌≤◌, ◌<◌}
+use mathlib.Core.Path.{◌≡◌, refl, sym}
 use native.Mathlib.Omega.{arith}
 use lib.ListN.{length}
+use Rattle.std.proofs.lemmas.Result.{err_from_is_err_and}
 use Rattle.model.specs.Machine.{Memory}
-use Rattle.model.specs.Refusals.{number_of, no_room}
-use Rattle.model.specs.Steps.{commit_records, commit_rows}
+use Rattle.model.specs.Refusals.{number_of}
+use Rattle.model.specs.Steps.{commit_records, commit_rows, commit_next}
 use Rattle.model.specs.Step.{commit}
+use Rattle.state.specs.declared.Machine.{Machine}
 use Rattle.state.specs.View.{view, memory}
-use Rattle.steps.specs.Committing.{Allowed}
 use Rattle.steps.proofs.Outcome.{refused-way}
-use Rattle.steps.proofs.Commits.{Sizes, sizes, known-thread, commit-appends, commit-size}
+use Rattle.steps.proofs.AppendWays.{AppendWay, append-done, append-cut}
+use Rattle.steps.proofs.Commits.{Sizes, sizes, commit-count, commit-few, known-thread, commit-appends, commit-numbered}
 use Rattle.steps.proofs.committing.committed.Goals as goal
-use Rattle.steps.proofs.committing.committed.Goals.{After-commit_refusal-number, After-count_records-count, Else-number-ne0, Start}
-
--- a pair as the clauses of the contract
-clauses : {A B : Type 0} → A × B → record { log_after : A; handed_back : B }
-clauses p = record { log_after = p.0; handed_back = p.1 }
+use Rattle.steps.proofs.committing.committed.Goals.{Start, In_ok-refusal, After-count_newest-newest}
 
 abbrev lent : (c : Start) → Memory
 lent c = memory c.args.home.now c.args.working.now c.args.log.now
 
 -- no common row applies
-size : (c : Start) → Sizes c.args.state
-size c = sizes c.args.state (lent c) c.requires.log_value
+size : (c : Start) → Sizes c.args.state.now
+size c = sizes c.args.state.now (lent c) c.requires
 
--- how many records there are
-counted : (c : After-count_records-count) → c.count_records-count.result ≡ length (commit_records (view c.args.state) (lent (goal.at.After-count_records-count c).Start) c.args.thread)
+-- as many records as are counted, of which few are newest values
+counted : (c : After-count_newest-newest)
+    → c.args.state.now.undos.len + c.args.state.now.redos.len + c.count_newest-newest.result + 1
+    ≡ length (commit_records (view c.args.state.now) (lent (goal.at.After-count_newest-newest c).Start) c.args.thread)
 counted c =
-    let out = c.requires.taken_out in
-    c.count_records-count.ensures.value c.args.state
-    (record { undos = refl; redos = refl; words = refl; holders = sym out.is_holders; states = sym out.is_states })
-    (lent (goal.at.After-count_records-count c).Start)
+    let start = (goal.at.After-count_newest-newest c).Start in
+    let z = size start in
+    commit-count c.args.state.now (lent start) c.args.thread c.count_newest-newest.result z.words z.round c.count_newest-newest.ensures
 
--- the number of the rows after the common ones
-later : (c : After-commit_refusal-number) → c.commit_refusal-number.result ≡ number_of (commit_rows (view c.args.state) (lent (goal.at.After-commit_refusal-number c).Start) c.args.thread)
-later c =
-    c.commit_refusal-number.ensures (view c.args.state) (lent (goal.at.After-commit_refusal-number c).Start) (sym c.is_open-open.ensures)
-    (c.no_room-room.ensures (lent (goal.at.After-commit_refusal-number c).Start) refl
-    ∙ ap (λ (k : ℕ). number_of (no_room (view c.args.state) (lent (goal.at.After-commit_refusal-number c).Start) k)) (counted (goal.at.After-commit_refusal-number c).After-count_records-count))
+few : (c : After-count_newest-newest) → c.count_newest-newest.result ≤ 512
+few c = commit-few c.args.state.now c.args.thread c.count_newest-newest.result c.count_newest-newest.ensures
 
-pub count_records-count-requires : goal.count_records-count-requires
-count_records-count-requires c =
-    let z = size (goal.at.count_records-count-requires c).Start in
-    (omega arith, (omega arith, (omega arith, omega arith)))
+-- nor one of its own, once it goes on
+module _ (c : In_ok-refusal) where
+  abbrev s : Machine
+  s = c.args.state.now
 
-pub returns-then-number-ne0 : goal.returns-then-number-ne0
-returns-then-number-ne0 c =
+  abbrev mem : Memory
+  mem = lent (goal.at.In_ok-refusal c).Start
+
+  own : 0 ≡ number_of (commit_rows (view s) mem c.args.thread)
+  own = c.in_ok-refusal.ensures mem refl (counted (goal.at.In_ok-refusal c).After-count_newest-newest)
+
+  known : c.args.thread < 8
+  known = known-thread s mem c.requires c.args.thread own
+
+  appends : AppendWay (commit c.args.thread) (view s) mem (commit_records (view s) mem c.args.thread)
+      (commit_next (view s) mem c.args.thread) mem.working
+  appends = commit-appends s mem c.requires c.args.thread own
+
+pub returns-in_err-refusal : goal.returns-in_err-refusal
+returns-in_err-refusal c =
     let a = c.args in
-    clauses (refused-way (commit a.thread) a.supply a.state (lent (goal.at.returns-then-number-ne0 c).Start) c.requires.log_value c.commit_refusal-number.result (later (goal.at.returns-then-number-ne0 c).After-commit_refusal-number) c.if-number-ne0.true refl
-    c.refused.result c.refused.ensures)
+    let n = c.in_err-refusal.field-0.0 in
+    let m : Memory = lent (goal.at.returns-in_err-refusal c).Start in
+    let p = err_from_is_err_and c.from_residual.result c.from_residual.ensures.1 in
+    rw (p.1, p.2)
+    (refused-way (commit a.thread) a.supply a.state.now m c.requires n (c.in_err-refusal.ensures m refl (counted (goal.at.returns-in_err-refusal c).After-count_newest-newest)) refl refl)
 
--- no row applies
-allowed : (c : Else-number-ne0) → Allowed c.args.thread c.count_records-count.result (view c.args.state) (lent (goal.at.Else-number-ne0 c).Start)
-allowed c =
+pub overflow_cast-thread : goal.overflow_cast-thread
+overflow_cast-thread c = omega (arith, known (goal.at.overflow_cast-thread c).In_ok-refusal)
+
+pub append_records-left-requires : goal.append_records-left-requires
+append_records-left-requires c =
+    let at = goal.at.append_records-left-requires c in
+    let z = size at.Start in
     record {
-      common = c.requires.log_value;
-      own = sym (later (goal.at.Else-number-ne0 c).After-commit_refusal-number) ∙ c.if-number-ne0.false;
-      records = counted (goal.at.Else-number-ne0 c).After-count_records-count;
+      newest_value = c.count_newest-newest.ensures;
+      sizes = ((appends at.In_ok-refusal).fits.working, (z.words, (z.round, (z.undos, (z.redos, z.tail)))));
     }
 
-pub carry_out-requires : goal.carry_out-requires
-carry_out-requires c =
+pub returns-then-supply-count : goal.returns-then-supply-count
+returns-then-supply-count c =
     let a = c.args in
-    let y = size (goal.at.carry_out-requires c).Start in
-    let count = c.count_records-count.result in
-    let thread = known-thread a.state a.thread a.home.now a.working.now a.log.now count (allowed (goal.at.carry_out-requires c).Else-number-ne0) in
-    let room = (commit-appends a.state a.thread a.home.now a.working.now a.log.now count (allowed (goal.at.carry_out-requires c).Else-number-ne0)).room in
-    let some : 1 ≤ count = omega (arith, (allowed (goal.at.carry_out-requires c).Else-number-ne0).records, commit-size (view a.state) (lent (goal.at.carry_out-requires c).Start) a.thread) in
-    (thread, (y.words, (y.undos, (y.redos, (some, omega (arith, room.numbered y.tail, (allowed (goal.at.carry_out-requires c).Else-number-ne0).records))))))
+    let at = goal.at.returns-then-supply-count c in
+    append-cut a.state.now (appends at.In_ok-refusal) a.supply (a.state.now.undos.len + a.state.now.redos.len + c.count_newest-newest.result + 1) c.append_records-left.result
+    a.state.now a.working.now c.append_records-left.new.log (sym (counted at.After-count_newest-newest))
+    c.if-supply-count.true (c.append_records-left.ensures a.home.now) refl
+
+pub close-requires : goal.close-requires
+close-requires c =
+    let a = c.args in
+    let at = goal.at.close-requires c in
+    let z = size at.Start in
+    let on = at.In_ok-refusal in
+    let numbered =
+    commit-numbered c.args.state.now (lent at.Start) c.requires c.args.thread (own on) (a.state.now.undos.len + a.state.now.redos.len + c.count_newest-newest.result + 1)
+    (counted at.After-count_newest-newest) in
+    (known on, (z.words, (z.undos, numbered)))
 
 pub returns : goal.returns
 returns c =
-    clauses (c.carry_out.ensures c.args.home.now (allowed (goal.at.returns c).Else-number-ne0))
+    let a = c.args in
+    let at = goal.at.returns c in
+    let count = counted at.After-count_newest-newest in
+    append-done a.state.now (appends at.In_ok-refusal) a.supply (a.state.now.undos.len + a.state.now.redos.len + c.count_newest-newest.result + 1)
+    c.append_records-left.result c.close.new.state c.append_records-left.new.log (sym count)
+    c.if-supply-count.false (c.append_records-left.ensures a.home.now) (c.close.ensures (lent at.Start) count)
+
+pub overflow_add-count : goal.overflow_add-count
+overflow_add-count c =
+    let z = size (goal.at.overflow_add-count c).Start in
+    omega (arith, z.undos, z.redos)
+
+pub overflow_add-count-2 : goal.overflow_add-count-2
+overflow_add-count-2 c =
+    let at = goal.at.overflow_add-count-2 c in
+    let z = size at.Start in
+    omega (arith, z.undos, z.redos, few at.After-count_newest-newest)
+
+pub overflow_add-count-3 : goal.overflow_add-count-3
+overflow_add-count-3 c =
+    let at = goal.at.overflow_add-count-3 c in
+    let z = size at.Start in
+    omega (arith, z.undos, z.redos, few at.After-count_newest-newest)
+
+pub overflow_mul-count : goal.overflow_mul-count
+overflow_mul-count c =
+    let at = goal.at.overflow_mul-count c in
+    let z = size at.Start in
+    omega (arith, z.undos, z.redos, few at.After-count_newest-newest)

@@ -1,4 +1,5 @@
--- `deleting::refusal` meets its contract: a number for each verdict.
+-- `deleting::refusal` meets its contract: the row by the verdict.
+use Rattle.std.proofs.Common.{inl, inr}
 use Rattle.model.specs.Refusals.{number_of}
 use Rattle.steps.proofs.deleting.refusal.Goals as goal
 
@@ -12,11 +13,7 @@ returns-in-Damaged c = rw c.in-Damaged.is
 
 pub returns-in-Open : goal.returns-in-Open
 unfolding number_of
-returns-in-Open c = rw c.in-Open.is
-
-pub returns-in-Needed : goal.returns-in-Needed
-unfolding number_of
-returns-in-Needed c = rw c.in-Needed.is
+returns-in-Open c = elim c.in-Open.is [ inl e ↦ rw e | inr e ↦ rw e ]
 
 pub returns-in-Spare : goal.returns-in-Spare
 unfolding number_of

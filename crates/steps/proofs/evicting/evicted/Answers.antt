@@ -1,162 +1,143 @@
--- `evicting::evicted` meets its contract: refused, cut, or done.
-use Prim.Native.Nat.{◌+◌, ◌-◌, ◌%◌, ◌≤◌, ◌<◌}
-use mathlib.Core.Path.{◌≡◌, refl, sym, ap, ◌∙◌}
+-- `evicted` meets its contract: refused by a row of its own, cut, or done.
+use Prim.Native.Nat.{◌≤◌, ◌<◌}
+use mathlib.Core.Path.{◌≡◌, refl, ap, ◌∙◌}
 use native.Mathlib.Omega.{arith}
-use lib.ListN.{get_or, set}
+use borrow.Author.Rules.{rules}
+use lib.ListN.{length, take}
 use lib.Seq.{set-get_or}
-use Rattle.lines.proofs.FirstLines.{WholeLines}
-use Rattle.lines.proofs.LinesInUse.{put-there}
+use Rattle.std.proofs.lemmas.Result.{err_from_is_err_and}
+use Rattle.log_region.specs.Appended.{Appended}
+use Rattle.buffers.specs.Waiting.{waiting}
+use Rattle.buffers.proofs.Waiting.{length-waiting, present-waiting}
 use Rattle.model.specs.Machine.{Memory}
 use Rattle.model.specs.Refusals.{number_of}
-use Rattle.model.specs.Steps.{redo_records, lacking, evict_rows}
+use Rattle.model.specs.Steps.{lacking, evict_records, evict_rows, evict_next}
 use Rattle.model.specs.Step.{evict}
-use Rattle.model.proofs.Fit.{Fit}
-use Rattle.buffers.proofs.Guards.{redos-appended}
+use Rattle.state.specs.declared.Machine.{Machine}
 use Rattle.state.specs.View.{view, memory}
-use Rattle.steps.proofs.Outcome.{common-fit, refused-way}
-use Rattle.steps.proofs.AppendWays.{appended-of, append-cut}
+use Rattle.steps.proofs.Outcome.{common-fit, common-narrow, refused-way}
+use Rattle.steps.proofs.AppendWays.{AppendWay, append-done, append-cut}
 use Rattle.steps.proofs.LineRows.{LineFit}
-use Rattle.steps.proofs.LoggingOldest.{WholeRedos}
-use Rattle.steps.proofs.StoreParts.{redos-length}
-use Rattle.steps.proofs.Eviction.{held-thread, lacking-by, entries-added, entries_none, evict-number, evict-fit}
-use Rattle.steps.proofs.Eviction.{evict-size, evict-appends, evict-done}
-use borrow.Author.Rules.{rules}
+use Rattle.steps.proofs.Eviction.{evict-size, evict-fit, evict-appends, evict-numbered, evict-next}
 use Rattle.steps.proofs.evicting.evicted.Goals as goal
-use Rattle.steps.proofs.evicting.evicted.Goals.{then-states-ne-ALL_CLEAN, else-states-ne-ALL_CLEAN, After-line_refusal-number, Else-number-ne0, Joined-states-ne-ALL_CLEAN, Start}
-
--- a pair as the clauses of the contract
-clauses : {A B : Type 0} → A × B → record { log_after : A; handed_back : B }
-clauses p = record { log_after = p.0; handed_back = p.1 }
+use Rattle.steps.proofs.evicting.evicted.Goals.{Start, In_ok-refusal, After-lacking-count, After-append_redos-left}
 
 abbrev lent : (c : Start) → Memory
 lent c = memory c.args.home.now c.args.working.now c.args.log.now
 
--- no common row applies
-fits : (c : Start) → Fit (view c.args.state) (lent c)
-fits c = common-fit (view c.args.state) (lent c) c.requires
+few : (c : Start) → c.args.state.now.redos.len ≤ 32
+few c =
+    let fits = common-fit (view c.args.state.now) (lent c) c.requires in
+    omega (arith, length-waiting c.args.state.now.redos, fits.clauses.redo_size)
 
-whole-lines : (c : Start) → WholeLines c.args.state.lines
-whole-lines c = search rules
+-- no row applies, once it goes on
+module _ (c : In_ok-refusal) where
+  abbrev s : Machine
+  s = c.args.state.now
 
-whole-redos : (c : Start) → WholeRedos c.args.state.redos
-whole-redos c = search rules
+  abbrev mem : Memory
+  mem = lent (goal.at.In_ok-refusal c).Start
 
-few : (c : Start) → c.args.state.redos.len ≤ 32
-few c = omega (arith, redos-length c.args.state.redos, (fits c).clauses.redo_size)
+  own : 0 ≡ number_of (evict_rows (view s) mem c.args.line)
+  own = c.in_ok-refusal.ensures mem refl
 
--- the number that was found is that of the step's rows
-number : (c : After-line_refusal-number)
-    → c.line_refusal-number.result ≡ number_of (evict_rows (view c.args.state) (lent (goal.at.After-line_refusal-number c).Start) c.args.line)
-number c =
-    let count = c.lacking-count in
-    let room = c.no_room-room in
-    evict-number c.args.line c.args.state (lent (goal.at.After-line_refusal-number c).Start) count.result room.result c.line_refusal-number.result c.requires
-    count.ensures.value count.ensures.upper_bound
-    (room.ensures (lent (goal.at.After-line_refusal-number c).Start) refl) c.line_refusal-number.ensures
+  passed : LineFit (view s) mem c.args.line
+  passed = evict-fit s mem c.args.line c.requires own
 
--- it is not refused
-module _ (c : Else-number-ne0) where
-  none : number_of (evict_rows (view c.args.state) (lent (goal.at.Else-number-ne0 c).Start) c.args.line) ≡ 0
-  none = sym (number (goal.at.Else-number-ne0 c).After-line_refusal-number) ∙ c.if-number-ne0.false
-
-  passed : LineFit (view c.args.state) (lent (goal.at.Else-number-ne0 c).Start) c.args.line
-  passed =
-      evict-fit c.args.line c.args.state (lent (goal.at.Else-number-ne0 c).Start) c.requires none
-
-  -- as many entries are logged as lack places
-  lacks : c.lacking-count.result ≡ lacking (view c.args.state) (lent (goal.at.Else-number-ne0 c).Start) c.args.line
-  lacks =
-      lacking-by c.args.state c.args.line passed.below (lent (goal.at.Else-number-ne0 c).Start) c.lacking-count.result passed.narrow c.lacking-count.ensures.value
+  appends : AppendWay (evict c.args.line) (view s) mem (evict_records (view s) mem c.args.line)
+      (evict_next (view s) mem c.args.line) mem.working
+  appends = evict-appends s mem c.args.line c.requires own
 
   -- the line has a place
   place : c.args.line < 64
-  place =
-      let below = passed.below in
-      let narrow = passed.narrow in
-      omega arith
+  place = omega (arith, passed.below, passed.narrow)
 
-pub returns-then-number-ne0 : goal.returns-then-number-ne0
-returns-then-number-ne0 c =
-    clauses (refused-way (evict c.args.line) c.args.supply c.args.state (lent (goal.at.returns-then-number-ne0 c).Start) c.requires c.line_refusal-number.result (number (goal.at.returns-then-number-ne0 c).After-line_refusal-number)
-    c.if-number-ne0.true refl
-    c.refused.result c.refused.ensures)
+-- as many entries are logged as lack places
+lacks : (c : After-lacking-count)
+    → c.lacking-count.result ≡ lacking (view c.args.state.now) (lent (goal.at.After-lacking-count c).Start) c.args.line
+lacks c = c.lacking-count.ensures.value (lent (goal.at.After-lacking-count c).Start)
+
+-- there are so many records
+records : (c : After-lacking-count)
+    → length (evict_records (view c.args.state.now) (lent (goal.at.After-lacking-count c).Start) c.args.line)
+    ≡ c.lacking-count.result
+records c =
+    evict-size c.args.state.now (lent (goal.at.After-lacking-count c).Start) c.args.line c.lacking-count.result (lacks c)
+    c.lacking-count.ensures.upper_bound
+
+-- and they are appended
+appended : (c : After-append_redos-left) → let m = view c.args.state.now in
+    Appended c.args.supply c.args.log.now m.span.tail
+    (evict_records m (lent (goal.at.After-append_redos-left c).Start) c.args.line)
+    c.append_redos-left.new.log c.append_redos-left.result
+appended c =
+    let at = goal.at.After-append_redos-left c in
+    let redos = c.args.state.now.redos in
+    let oldest : c.oldest.result.now ≡ take c.lacking-count.result (waiting redos) =
+    c.oldest.ensures ∙ ap (take c.lacking-count.result) (present-waiting redos (few at.Start)) in
+    rw (oldest, lacks at.After-lacking-count) at c.append_redos-left.ensures
+
+pub refusal-requires : goal.refusal-requires
+refusal-requires c =
+    let first = (goal.at.refusal-requires c).Start in
+    (common-narrow (view c.args.state.now) (lent first) c.requires, few first)
+
+pub returns-in_err-refusal : goal.returns-in_err-refusal
+returns-in_err-refusal c =
+    let a = c.args in
+    let n = c.in_err-refusal.field-0.0 in
+    let m : Memory = lent (goal.at.returns-in_err-refusal c).Start in
+    let p = err_from_is_err_and c.from_residual.result c.from_residual.ensures.1 in
+    rw (p.1, p.2)
+    (refused-way (evict a.line) a.supply a.state.now m c.requires n (c.in_err-refusal.ensures m refl) refl refl)
+
+pub lacking-count-requires : goal.lacking-count-requires
+lacking-count-requires c =
+    let at = goal.at.lacking-count-requires c in
+    let fit = passed at.In_ok-refusal in
+    (fit.below, (fit.narrow, few at.Start))
 
 pub overflow_mul-count : goal.overflow_mul-count
-overflow_mul-count c =
-    let h = few (goal.at.overflow_mul-count c).Start in
-    omega (arith, c.lacking-count.ensures.upper_bound)
+overflow_mul-count c = omega (arith, few (goal.at.overflow_mul-count c).Start, c.lacking-count.ensures.upper_bound)
 
 pub returns-then-supply-count : goal.returns-then-supply-count
 returns-then-supply-count c =
     let a = c.args in
+    let at = goal.at.returns-then-supply-count c in
+    append-cut a.state.now (appends at.In_ok-refusal) a.supply c.lacking-count.result c.append_redos-left.result
+    a.state.now a.working.now c.append_redos-left.new.log (records at.After-lacking-count) c.if-supply-count.true
+    (appended at.After-append_redos-left) refl
+
+pub drop_redos-requires : goal.drop_redos-requires
+drop_redos-requires c =
+    let a = c.args in
+    let at = goal.at.drop_redos-requires c in
     let count = c.lacking-count in
-    let log = c.append_redos-left in
-    clauses (append-cut (evict-appends a.line a.state (lent (goal.at.returns-then-supply-count c).Start) c.requires (none (goal.at.returns-then-supply-count c).Else-number-ne0)) a.supply count.result c.cut.result c.cut.new.working
-    log.new.log log.result (evict-size a.line a.state (lent (goal.at.returns-then-supply-count c).Start) count.result (lacks (goal.at.returns-then-supply-count c).Else-number-ne0) count.ensures.upper_bound) c.if-supply-count.true
-    (appended-of (λ k. redo_records k (view a.state)) count.result _ (lacks (goal.at.returns-then-supply-count c).Else-number-ne0)
-    (redos-appended count.result a.state.redos count.ensures.upper_bound (few (goal.at.returns-then-supply-count c).Start) log.ensures))
-    c.cut.ensures.value c.cut.ensures.working_after)
+    let numbered =
+    evict-numbered a.state.now (lent at.Start) a.line c.requires (own at.In_ok-refusal) count.result
+    (lacks at.After-lacking-count) count.ensures.upper_bound in
+    (count.ensures.upper_bound, (few at.Start, omega arith))
 
-pub overflow_sub-state : goal.overflow_sub-state
-overflow_sub-state c = c.lacking-count.ensures.upper_bound
+pub offset_bounds-state-at : goal.offset_bounds-state-at
+offset_bounds-state-at c = omega (arith, place (goal.at.offset_bounds-state-at c).In_ok-refusal)
 
-pub overflow_add-state : goal.overflow_add-state
-overflow_add-state c =
-    let h = few (goal.at.overflow_add-state c).Start in
-    omega (arith, c.count_ulog.ensures.upper_bound)
+pub bounds-state-at : goal.bounds-state-at
+bounds-state-at c = place (goal.at.bounds-state-at c).In_ok-refusal
 
--- the tail is as it was
-same-tail : (c : Joined-states-ne-ALL_CLEAN) → c.if-states-ne-ALL_CLEAN.state.tail ≡ c.args.state.tail
-same-tail c =
-    elim c.if-states-ne-ALL_CLEAN.branch [
-      | then-states-ne-ALL_CLEAN w ↦ rw w.state-is
-      | else-states-ne-ALL_CLEAN w ↦ rw w.state-is
-    ]
+pub offset_bounds-state-at-2 : goal.offset_bounds-state-at-2
+offset_bounds-state-at-2 c = omega (arith, place (goal.at.offset_bounds-state-at-2 c).In_ok-refusal)
 
-pub overflow_add-state-2 : goal.overflow_add-state-2
-overflow_add-state-2 c =
-    let t = same-tail (goal.at.overflow_add-state-2 c).Joined-states-ne-ALL_CLEAN in
-    let f = (passed (goal.at.overflow_add-state-2 c).Else-number-ne0).fits.clauses.tail in
-    let h = few (goal.at.overflow_add-state-2 c).Start in
-    omega (arith, c.lacking-count.ensures.upper_bound)
+pub bounds-state-at-2 : goal.bounds-state-at-2
+bounds-state-at-2 c = place (goal.at.bounds-state-at-2 c).In_ok-refusal
 
--- a line whose words are all Clean stays, and nothing is logged for it
 pub returns : goal.returns
 returns c =
-    let log = c.append_redos-left in
     let a = c.args in
-    let f = passed (goal.at.returns c).Else-number-ne0 in
+    let at = goal.at.returns c in
     let count = c.lacking-count in
-    let same : a.line % 64 ≡ a.line = omega (arith, place (goal.at.returns c).Else-number-ne0) in
-    let states = rw same at c.states_at-states.ensures in
-    let done =
-    evict-done a.line a.state (lent (goal.at.returns c).Start) c.requires (none (goal.at.returns c).Else-number-ne0) a.supply count.result (lacks (goal.at.returns c).Else-number-ne0) count.ensures.upper_bound log.new.log log.result
-    (redos-appended count.result a.state.redos count.ensures.upper_bound (few (goal.at.returns c).Start) log.ensures) c.if-supply-count.false (whole-lines (goal.at.returns c).Start) in
-    clauses (elim c.if-states-ne-ALL_CLEAN.branch [
-      | then-states-ne-ALL_CLEAN w ↦
-          let whole = whole-redos (goal.at.returns c).Start in
-          let holder = rw same at w.holder_at-holder.ensures in
-          let new_keys = w.refill_keys.new.keys in
-          let new_redos = w.refill_redos.new.redos in
-          let new_states = w.put_states.new.states in
-          let keys = w.refill_keys.ensures whole.keys in
-          let redos = w.refill_redos.ensures whole.redos in
-          let added = w.count_ulog.ensures.value in
-          let held = held-thread a.state a.line f.fits.clauses f.below (λ clean. w.if-states-ne-ALL_CLEAN.true (states ∙ clean)) in
-          rw w.state-is
-          (done (record { redos = new_redos; len = a.state.redos.len - count.result + w.count_ulog.result; keys = new_keys }) new_states
-          (entries-added a.state a.line f.below (lent (goal.at.returns c).Start) count.result (lacks (goal.at.returns c).Else-number-ne0) count.ensures.upper_bound w.count_ulog.result new_keys new_redos
-          f.narrow f.fits.working (few (goal.at.returns c).Start) whole (rw states at added) (omega arith) (rw (holder, states) at keys) (rw states at redos))
-          (put-there a.state.lines.states new_states a.line 0 (place (goal.at.returns c).Else-number-ne0) w.put_states.ensures))
-      | else-states-ne-ALL_CLEAN w ↦
-          let all = a.state.lines.states in
-          let clean : get_or all a.line 0 ≡ 0 = rw states at w.if-states-ne-ALL_CLEAN.false in
-          rw w.state-is
-          (done a.state.redos all
-          (entries_none a.state a.line f.below (lent (goal.at.returns c).Start) count.result (lacks (goal.at.returns c).Else-number-ne0) count.ensures.upper_bound clean (few (goal.at.returns c).Start))
-          (sym (set-get_or all a.line 0) ∙ ap (set all a.line) clean))
-    ])
-
-pub lacking-count-requires : goal.lacking-count-requires
-lacking-count-requires c =
-    few (goal.at.lacking-count-requires c).Start
+    append-done a.state.now (appends at.In_ok-refusal) a.supply count.result c.append_redos-left.result _
+    c.append_redos-left.new.log (records at.After-lacking-count) c.if-supply-count.false
+    (appended at.After-append_redos-left)
+    (evict-next a.state.now (lent at.Start) a.line c.requires (own at.In_ok-refusal) c.drop_redos.new.state count.result
+    (lacks at.After-lacking-count) count.ensures.upper_bound (few at.Start) c.drop_redos.ensures
+    c.add_ulog_words.new.self _ (search rules) c.add_ulog_words.ensures (simp set-get_or))

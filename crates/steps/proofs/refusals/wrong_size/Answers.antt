@@ -4,4 +4,4 @@ use Rattle.steps.proofs.refusals.wrong_size.Goals as goal
 
 pub returns : goal.returns
 unfolding wrong_size
-returns c m lost words slots = simp (lost, words, slots, c.slots.ensures, c.wrong_lengths.ensures)
+returns c = simp (c.slots.ensures, c.wrong_lengths.ensures)

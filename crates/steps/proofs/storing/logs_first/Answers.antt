@@ -1,43 +1,34 @@
 -- `logs_first` is the model's count.
-use Prim.Native.Nat.{ℕ, ◌/◌, ◌%◌, ◌<◌}
-use mathlib.Core.Path.{◌≡◌, sym, ap, ◌∙◌}
-use mathlib.Core.List.{List}
+use Prim.Native.Nat.{ℕ, ◌/◌}
+use mathlib.Core.Path.{◌≡◌, refl, ap, ◌∙◌}
+use mathlib.Core.Bool.{Bool, true, false, cond}
+use mir.Val.{bool_byte}
 use native.Mathlib.Omega.{arith}
-use mathlib.Core.Bool.{true, false}
-use lib.ListN.{length, get_or}
-use Rattle.buffers.specs.Waiting.{undos_waiting}
-use Rattle.parts.specs.States.{state_at}
+use borrow.Author.Rules.{rules}
+use lib.Dec.{eqb}
+use lib.ListN.{length}
+use Rattle.parts.specs.declared.WordState.TheVariants.{Clean}
+use Rattle.parts.proofs.States.{state-tested}
 use Rattle.lines.proofs.LinesInUse.{state-there}
+use Rattle.buffers.proofs.Waiting.{length-waiting}
 use Rattle.model.specs.Machine.{state_in}
-use Rattle.state.specs.declared.Machine.{Machine}
+use Rattle.model.specs.Steps.{store_logs}
 use Rattle.state.specs.View.{view}
-use Rattle.steps.proofs.StoreParts.{logs-clean, logs-other, undos-length}
 use Rattle.steps.proofs.storing.logs_first.Goals as goal
-use Rattle.steps.proofs.storing.logs_first.Goals.{After-state_of}
 
--- the state of the word, and how many entries wait
-module _ (c : After-state_of) (s : Machine) (states : s.lines.states ≡ c.args.states.now) (len : s.undos.len ≡ c.args.len)
-    (below : c.args.word / 8 < s.words / 8) where
-  kind : c.state_of.result ≡ state_in (view s).lines c.args.word
-  kind =
-      let w = c.args.word in
-      c.state_of.ensures
-      ∙ ap (λ (ss : List ℕ). state_at (get_or ss (w / 8 % 64) 0) (w % 8)) (sym states)
-      ∙ state-there s.lines (s.words / 8) w (omega arith) below
+-- a test as a number
+test-number : (t : Bool) → bool_byte t ≡ cond t 1 0
+test-number true = refl
+test-number false = refl
 
-  waiting : c.before.args.len ≡ length (undos_waiting s.undos)
-  waiting = sym (undos-length s.undos ∙ len)
-
-pub returns-then-same-len : goal.returns-then-same-len
-returns-then-same-len c s states len below =
-    logs-clean (view s) c.args.word c.args.same c.state_of.result (kind (goal.at.returns-then-same-len c).After-state_of s states len below) true c.args.len
-    (waiting (goal.at.returns-then-same-len c).After-state_of s states len below) c.in-0.is c.if-same-len.true
-
-pub returns-else-same-len : goal.returns-else-same-len
-returns-else-same-len c s states len below =
-    logs-clean (view s) c.args.word c.args.same c.state_of.result (kind (goal.at.returns-else-same-len c).After-state_of s states len below) false c.args.len
-    (waiting (goal.at.returns-else-same-len c).After-state_of s states len below) c.in-0.is c.if-same-len.false
-
-pub returns-in_default : goal.returns-in_default
-returns-in_default c s states len below =
-    logs-other (view s) c.args.word c.args.same c.state_of.result (kind (goal.at.returns-in_default c).After-state_of s states len below) c.in_default.in_default-own.rest.1
+pub returns : goal.returns
+unfolding store_logs
+returns c =
+    let s = c.args.state.now in
+    let w = c.args.word in
+    let h = c.requires in
+    let whole : length s.lines ≡ 64 = search rules in
+    let state = c.state_of.ensures ∙ state-there (s.words / 8) s.lines whole (omega arith) w (omega arith) in
+    let clean : c.eq-clean.result ≡ eqb (state_in (view s).lines w) 0 =
+    c.eq-clean.ensures ∙ state-tested c.state_of.result Clean ∙ ap (λ (n : ℕ). eqb n 0) state in
+    rw (clean, length-waiting s.undos) (test-number _)

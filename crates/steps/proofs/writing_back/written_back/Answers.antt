@@ -1,61 +1,68 @@
 -- `written_back` meets its contract: refused, cut, or done.
-use mathlib.Core.Path.{◌≡◌, refl, sym, ◌∙◌}
-use mathlib.Core.Bool.{false}
-use mathlib.Core.List.{[]}
+use Prim.Native.Nat.{ℕ, ◌/◌, ◌<◌}
+use mathlib.Core.Path.{◌≡◌, refl, sym, ◌∙◌, ap}
 use native.Mathlib.Omega.{arith}
-use Rattle.lines.proofs.FirstLines.{WholeLines}
-use Rattle.lines.proofs.LinesInUse.{put-there}
 use Rattle.model.specs.Machine.{Memory}
-use Rattle.model.specs.Refusals.{number_of}
+use Rattle.model.specs.Refusals.{number_of, common}
 use Rattle.model.specs.Steps.{line_rows}
 use Rattle.model.specs.Step.{write_back}
+use Rattle.state.specs.declared.Machine.{Machine}
 use Rattle.state.specs.View.{view, memory}
 use Rattle.steps.proofs.Outcome.{common-narrow, refused-way}
-use Rattle.steps.proofs.LineRows.{line-number}
-use Rattle.steps.proofs.WritingBack.{write-fit, write-cut, write_done}
-use borrow.Author.Rules.{rules}
+use Rattle.std.proofs.Common.{rules, List, length}
+use Rattle.parts.specs.declared.Line.{Line}
+use Rattle.lines.specs.Lines.{first_lines}
+use Rattle.lines.proofs.LinesInUse.{changed-there, first-changed}
+use Rattle.model.specs.Machine.{with_lines, dirty_as}
+use mathlib.Core.Bool.{false}
+use Rattle.steps.proofs.Refused.{handed-on}
+use Rattle.steps.proofs.WritingBack.{write-fit, write-cut, write-done}
 use Rattle.steps.proofs.writing_back.written_back.Goals as goal
-use Rattle.steps.proofs.writing_back.written_back.Goals.{After-line_refusal-number, Else-number-ne0, Start}
 
--- a pair as the clauses of the contract
-clauses : {A B : Type 0} → A × B → record { log_after : A; handed_back : B }
-clauses p = record { log_after = p.0; handed_back = p.1 }
-
-abbrev lent : (c : Start) → Memory
-lent c = memory c.args.home.now c.args.working.now c.args.log.now
-
-whole-lines : (c : Start) → WholeLines c.args.state.lines
-whole-lines c = search rules
-
--- the number that was found is that of the step's rows
-number : (c : After-line_refusal-number) → c.line_refusal-number.result ≡ number_of (line_rows (view c.args.state) c.args.line)
-unfolding number_of
-number c =
-    line-number c.args.state c.args.line 0 c.line_refusal-number.result [] (common-narrow (view c.args.state) (lent (goal.at.After-line_refusal-number c).Start) c.requires) (λ _. refl)
-    c.line_refusal-number.ensures
-
--- no row applies where the step goes on
-none : (c : Else-number-ne0) → number_of (line_rows (view c.args.state) c.args.line) ≡ 0
-none c = sym (number (goal.at.Else-number-ne0 c).After-line_refusal-number) ∙ c.if-number-ne0.false
-
-pub returns-then-number-ne0 : goal.returns-then-number-ne0
-returns-then-number-ne0 c =
+pub line_refusal-requires : goal.line_refusal-requires
+line_refusal-requires c =
     let a = c.args in
-    clauses (refused-way (write_back a.line) a.supply a.state (lent (goal.at.returns-then-number-ne0 c).Start) c.requires c.line_refusal-number.result
-    (number (goal.at.returns-then-number-ne0 c).After-line_refusal-number) c.if-number-ne0.true refl
-    c.refused.result c.refused.ensures)
+    common-narrow (view a.state.now) (memory a.home.now a.working.now a.log.now) c.requires
+
+pub returns-in_err-line_refusal : goal.returns-in_err-line_refusal
+returns-in_err-line_refusal c =
+    let a = c.args in
+    let n = c.in_err-line_refusal.field-0.0 in
+    rw (handed-on c.from_residual.result n c.from_residual.ensures)
+    (refused-way (write_back a.line) a.supply a.state.now (memory a.home.now a.working.now a.log.now) c.requires n c.in_err-line_refusal.ensures refl refl)
 
 pub returns-then-supply-lt8 : goal.returns-then-supply-lt8
 returns-then-supply-lt8 c =
     let a = c.args in
-    clauses (write-cut a.line a.supply a.state (lent (goal.at.returns-then-supply-lt8 c).Start) c.requires (none (goal.at.returns-then-supply-lt8 c).Else-number-ne0) c.cut.result c.store_line-left.new.home
-    c.store_line-left.ensures.home_after c.cut.new.working c.if-supply-lt8.true c.cut.ensures.value c.cut.ensures.working_after)
+    write-cut a.line a.supply a.state.now (memory a.home.now a.working.now a.log.now) c.requires (sym c.in_ok-line_refusal.ensures)
+    c.store_line-left.new.home c.store_line-left.ensures.home_after a.state.now c.if-supply-lt8.true
+
+-- the line is in use
+below : (s : Machine) (i : ℕ) (mem : Memory) → number_of (common (view s) mem) ≡ 0 → 0 ≡ number_of (line_rows (view s) i) → i < 64
+below s i mem zero none =
+    let f = write-fit i 0 s mem zero (sym none) in
+    let narrow = f.narrow in
+    let inside = f.below in
+    omega arith
+
+pub offset_bounds-state-at : goal.offset_bounds-state-at
+offset_bounds-state-at c =
+    let a = c.args in
+    let h = below a.state.now a.line (memory a.home.now a.working.now a.log.now) c.requires c.in_ok-line_refusal.ensures in
+    omega arith
+
+pub bounds-state-at : goal.bounds-state-at
+bounds-state-at c =
+    let a = c.args in
+    below a.state.now a.line (memory a.home.now a.working.now a.log.now) c.requires c.in_ok-line_refusal.ensures
 
 pub returns : goal.returns
 returns c =
     let a = c.args in
-    let f = write-fit a.line a.supply a.state (lent (goal.at.returns c).Start) c.requires (none (goal.at.returns c).Else-number-ne0) in
-    clauses (write_done a.line a.supply a.state (lent (goal.at.returns c).Start) c.requires (none (goal.at.returns c).Else-number-ne0) (record { answer = 0; left = c.store_line-left.result; state = _ })
-    c.store_line-left.new.home c.store_line-left.ensures.home_after
-    c.put_flag.new.dirty c.if-supply-lt8.false refl c.store_line-left.ensures.value refl (whole-lines (goal.at.returns c).Start)
-    (put-there a.state.lines.dirty c.put_flag.new.dirty a.line false (omega arith) c.put_flag.ensures))
+    let f = write-fit a.line a.supply a.state.now (memory a.home.now a.working.now a.log.now) c.requires (sym c.in_ok-line_refusal.ensures) in
+    let whole : length a.state.now.lines ≡ 64 = search rules in
+    write-done a.line a.supply a.state.now (memory a.home.now a.working.now a.log.now) c.requires (sym c.in_ok-line_refusal.ensures)
+    c.store_line-left.new.home c.store_line-left.ensures.home_after c.store_line-left.result _ c.if-supply-lt8.false c.store_line-left.ensures.value
+    (ap (λ (ls : List Line). with_lines ls (view a.state.now))
+    (ap (first_lines (a.state.now.words / 8)) (changed-there (dirty_as false) a.state.now.lines a.line (omega (arith, whole)))
+    ∙ first-changed (dirty_as false) (a.state.now.words / 8) a.state.now.lines a.line whole (omega (arith, f.narrow))))

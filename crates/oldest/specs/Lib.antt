@@ -1,2 +1,0 @@
--- What the functions on the oldest record compute.
-pub mod OldestIn

@@ -1,6 +1,0 @@
--- `undo_keys` ends.
-use Rattle.std.proofs.Common.{◌-◌}
-use Rattle.random_lists.proofs.changing.undo_keys.Given as goal
-
-abbrev pub decreases-loop-i : goal.decreases-loop-i
-decreases-loop-i l = 16 - l.i

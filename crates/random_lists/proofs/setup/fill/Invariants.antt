@@ -1,6 +1,0 @@
--- `fill` ends.
-use Rattle.std.proofs.Common.{◌-◌}
-use Rattle.random_lists.proofs.setup.fill.Given as goal
-
-abbrev pub decreases-loop-i : goal.decreases-loop-i
-decreases-loop-i l = l.w - l.i

@@ -1,6 +1,0 @@
--- `run` ends.
-use Rattle.std.proofs.Common.{◌-◌, length}
-use Rattle.scenarios.proofs.scenario.run.Given as goal
-
-abbrev pub decreases-loop-i : goal.decreases-loop-i
-decreases-loop-i l = length l.line - l.i

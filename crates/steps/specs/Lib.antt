@@ -1,3 +1,0 @@
--- What the functions of the steps are handed, and what they ask of it.
-pub mod Committing
-pub mod LentParts

@@ -1,5 +1,5 @@
 -- What a commit logs, and the state after it.
-use Prim.Native.Nat.{ℕ, zero, suc, ◌+◌, ◌-◌, ◌*◌, ◌/◌, ◌%◌, ◌≤◌, ◌<◌, min}
+use Prim.Native.Nat.{ℕ, zero, suc, ◌+◌, ◌-◌, ◌*◌, ◌/◌, ◌≤◌, ◌<◌, min}
 use mathlib.Core.Path.{◌≡◌, refl, sym, ap, ◌∙◌}
 use mathlib.Core.Bool.{true, false}
 use mathlib.Core.List.{List, [], ◌∷◌, ◌++◌, map}
@@ -38,7 +38,8 @@ use Rattle.model.proofs.Lines.{holder-marked, holder-logged, length-words}
 use Rattle.model.proofs.Rows.{None, none-apply, own-refusals, room}
 use Rattle.state.specs.declared.Machine.{Machine}
 use Rattle.state.specs.View.{view, memory}
-use Rattle.steps.proofs.Outcome.{width, common-fit}
+use Rattle.steps.specs.Allowed.{Bounded}
+use Rattle.steps.proofs.Outcome.{common-fit, bounded}
 use Rattle.steps.proofs.AppendWays.{AppendWay}
 
 -- all that waits in a buffer, with the number of its entries as the code takes them
@@ -54,10 +55,10 @@ unfolding commit_records prepare_records newest_redos
 commit-size m mem t = simp (length-append, length-map) (omega arith)
 
 -- the ULog words that the code counts
-pub commit-newest : (s : Machine) (t r : ℕ) → s.words ≤ 512 → s.words % 8 ≡ 0
+pub commit-newest : (s : Machine) (t r : ℕ) → Bounded s
     → r ≡ length (newest_words (first_lines (min (s.words / 8) 64) s.lines) t (8 * min (s.words / 8) 64))
     → r ≡ length (newest_words (view s).lines t s.words)
-commit-newest s t r most round e =
+commit-newest s t r b e =
     let n : min (s.words / 8) 64 ≡ s.words / 8 = omega arith in
     let v : 8 * (s.words / 8) ≡ s.words = omega arith in
     rw (n, v) at e
@@ -69,13 +70,13 @@ commit-few s t r e =
     omega (arith, newest-few (first_lines (min (s.words / 8) 64) s.lines) t (8 * min (s.words / 8) 64))
 
 -- the number of records, by what the code counts
-pub commit-count : (s : Machine) (mem : Memory) (t r : ℕ) → s.words ≤ 512 → s.words % 8 ≡ 0
+pub commit-count : (s : Machine) (mem : Memory) (t r : ℕ) → Bounded s
     → r ≡ length (newest_words (first_lines (min (s.words / 8) 64) s.lines) t (8 * min (s.words / 8) 64))
     → s.undos.len + s.redos.len + r + 1 ≡ length (commit_records (view s) mem t)
-commit-count s mem t r most round e =
+commit-count s mem t r b e =
     omega (
       arith,
-      commit-newest s t r most round e,
+      commit-newest s t r b e,
       commit-size (view s) mem t,
       length-waiting s.undos,
       length-waiting s.redos,
@@ -165,8 +166,7 @@ commit-next s mem t count marks ls us rs places narrow counted logged freed no_u
     rw (tail, lines, no_undo, no_redo)
 
 -- the code appends its records in four parts
-module _ (s : Machine) (t : ℕ) (home working log : List ℕ) (width : length working ≡ s.words) (most : s.words ≤ 512)
-    (round : s.words % 8 ≡ 0) (undos : s.undos.len ≤ 16) (redos : s.redos.len ≤ 32) where
+module _ (s : Machine) (t : ℕ) (home working log : List ℕ) (width : length working ≡ s.words) (b : Bounded s) where
   pub commit-appended : {c k₁ k₂ k₃ k₄ : ℕ} {log₁ log₂ log₃ log₄ : List ℕ} (us rs : List Entry) (r : ℕ)
       → us ≡ take s.undos.len (present s.undos)
       → rs ≡ take s.redos.len (present s.redos)
@@ -183,19 +183,19 @@ module _ (s : Machine) (t : ℕ) (home working log : List ℕ) (width : length w
       let ns : List Record = newest_redos (view s) (memory home working log) t in
       let us-records : List Record = map undo_redo_record (waiting s.undos) in
       let rs-records : List Record = map redo_record (waiting s.redos) in
-      let us-is : us ≡ waiting s.undos = undo ∙ oldest-all s.undos undos in
-      let rs-is : rs ≡ waiting s.redos = redo ∙ oldest-all s.redos redos in
+      let us-is : us ≡ waiting s.undos = undo ∙ oldest-all s.undos b.undos in
+      let rs-is : rs ≡ waiting s.redos = redo ∙ oldest-all s.redos b.redos in
       let us-size : length us ≡ length us-records =
       ap length us-is ∙ sym (length-map (waiting s.undos) undo_redo_record) in
       let rs-size : length rs ≡ length rs-records =
       ap length rs-is ∙ sym (length-map (waiting s.redos) redo_record) in
       let words : List ℕ = newest_words (view s).lines t s.words in
       let ns-size : r ≡ length ns =
-      commit-newest s t r most round counted ∙ sym (length-map words (λ w. Redo t w (get_or working w 0))) in
+      commit-newest s t r b counted ∙ sym (length-map words (λ w. Redo t w (get_or working w 0))) in
       let one : Appended c log s.tail us-records log₁ k₁ = rw us-is at first in
       let two : Appended k₁ log₁ (s.tail + length us-records) rs-records log₂ k₂ = rw (us-size, rs-is) at second in
       let three : Appended k₂ log₂ (s.tail + length us-records + length rs-records) ns log₃ k₃ =
-      rw (us-size, rs-size, newest-of s.lines working t (omega arith) (rw width round), width) at third in
+      rw (us-size, rs-size, newest-of s.lines working t (omega arith) (rw width b.round), width) at third in
       let all : List Record = us-records ++ (rs-records ++ ns) in
       let last : s.tail + length us + length rs + r ≡ s.tail + length all =
       omega (arith, length-append us-records (rs-records ++ ns), length-append rs-records ns) in
@@ -203,27 +203,7 @@ module _ (s : Machine) (t : ℕ) (home working log : List ℕ) (width : length w
       (appended_then us-records (rs-records ++ ns) one (appended_then rs-records ns two three))
       (rw last at (appended_one (Commit t) left after))
 
--- the sizes of a state that no common row refuses
-pub record Sizes (s : Machine) : Type 0 where
-  pub words : s.words ≤ 512
-  pub round : s.words % 8 ≡ 0
-  pub undos : s.undos.len ≤ 16
-  pub redos : s.redos.len ≤ 32
-  pub tail : s.tail ≤ numbers
-
 module _ (s : Machine) (mem : Memory) (zero : number_of (common (view s) mem) ≡ 0) where
-  pub sizes : Sizes s
-  sizes =
-      let all = (common-fit (view s) mem zero).clauses in
-      let wide = width s.words all.width in
-      record {
-        words = wide.most;
-        round = wide.whole;
-        undos = omega (arith, length-waiting s.undos, all.undo_size);
-        redos = omega (arith, length-waiting s.redos, all.redo_size);
-        tail = all.tail;
-      }
-
   -- a commit that its own rows do not refuse
   module _ (t : ℕ) (own : 0 ≡ number_of (commit_rows (view s) mem t)) where
     none : None (commit_rows (view s) mem t)
@@ -244,4 +224,4 @@ module _ (s : Machine) (mem : Memory) (zero : number_of (common (view s) mem) �
 
     -- and their numbers are those of records
     pub commit-numbered : (count : ℕ) → count ≡ length (commit_records (view s) mem t) → s.tail + count ≤ numbers
-    commit-numbered count counted = rw counted (commit-appends.room.numbered sizes.tail)
+    commit-numbered count counted = rw counted (commit-appends.room.numbered (bounded s mem zero).tail)

@@ -7,7 +7,6 @@ use native.Mathlib.Omega.{arith}
 use borrow.Author.Tests.{lt-ltb, le-leb, leb-false}
 use lib.Dec.{leb}
 use lib.ListN.{length, get_or, set, drop, length-map, length-drop}
-use Rattle.log_region.specs.Region.{numbers}
 use Rattle.parts.specs.declared.Entry.{Entry}
 use Rattle.parts.specs.declared.Line.{Line}
 use Rattle.parts.specs.States.{ULog}
@@ -29,7 +28,7 @@ use Rattle.state.specs.declared.Machine.{Machine}
 use Rattle.state.specs.declared.refusals.Refusal.{Refusal}
 use Rattle.state.specs.Answers.{number_of_refusal}
 use Rattle.state.specs.View.{view}
-use Rattle.steps.proofs.Outcome.{some-refusal}
+use Rattle.steps.proofs.Outcome.{some-refusal, bounded}
 use Rattle.steps.proofs.AppendWays.{AppendWay}
 use Rattle.steps.proofs.LineRows.{LineFit, line-fit, line-there}
 
@@ -119,14 +118,9 @@ module _ (s : Machine) (mem : Memory) (i : ℕ) (zero : number_of (common (view 
         room = room (view s) mem (length (evict_records (view s) mem i)) none.1.1;
       }
 
-  -- and their numbers are those of records
-  pub evict-numbered : (count : ℕ) → count ≡ lacking (view s) mem i → count ≤ s.redos.len → s.tail + count ≤ numbers
-  evict-numbered count lacks within =
-      rw (← evict-size s mem i count lacks within) (evict-appends.room.numbered evict-fit.fits.clauses.tail)
-
   -- once `count` entries are logged, there is a place for each new one, and each is put last
   module _ (logged : Machine) (count : ℕ) (lacks : count ≡ lacking (view s) mem i) (within : count ≤ s.redos.len)
-      (few : s.redos.len ≤ 32) (after : view logged ≡ redos_logged count (view s)) where
+      (after : view logged ≡ redos_logged count (view s)) where
     same-words : logged.words ≡ s.words
     same-words = ap (λ (m : Model). m.sizes.words) after
 
@@ -155,7 +149,7 @@ module _ (s : Machine) (mem : Memory) (i : ℕ) (zero : number_of (common (view 
         sym (length-waiting logged.redos) ∙ ap length left-over ∙ length-drop count (waiting s.redos)
         ∙ ap (λ (n : ℕ). n - count) (length-waiting s.redos) in
         let room : logged.redos.len + length new ≤ 32 =
-        omega (arith, length-waiting s.redos, ap length added) in
+        omega (arith, length-waiting s.redos, (bounded s mem zero).redos, ap length added) in
         rw (lt-ltb i 64 line, le-leb (8 * i + 8) (length mem.working) there, le-leb _ 32 room)
 
     -- the state after the eviction

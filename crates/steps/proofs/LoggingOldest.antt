@@ -19,10 +19,9 @@ use Rattle.model.specs.Plan.{append}
 use Rattle.model.specs.Refusals.{Row, row, number_of, nothing, no_room, common}
 use Rattle.model.specs.Steps.{oldest_rows}
 use Rattle.model.specs.Step.{Step}
-use Rattle.model.proofs.Fit.{Clauses}
 use Rattle.model.proofs.Lists.{every-right}
 use Rattle.model.proofs.Rows.{none-apply, number-then, number_more, no-records, oldest-refusals, oldest-room}
-use Rattle.steps.proofs.Outcome.{common-fit, common-narrow, Way}
+use Rattle.steps.proofs.Outcome.{common-fit, Way}
 use Rattle.steps.proofs.AppendWays.{AppendWay}
 
 -- the k oldest entries of a buffer, which has so many
@@ -65,12 +64,10 @@ module _ {n : ℕ} (b : Buffer n) (f : Entry → Record) (step : Step) (m : Mode
     pub appends : AppendWay step m mem (map f (take 1 (waiting b))) next mem.working
     pub one : length (map f (take 1 (waiting b))) ≡ 1
     pub some : 1 ≤ b.len
-    pub short : b.len ≤ n
-    pub narrow : m.sizes.words ≤ 512
 
-  pub known : (Clauses m → length (waiting b) ≤ n) → number_of (common m mem) ≡ 0 → number_of (oldest_rows m mem (map f (take 1 (waiting b)))) ≡ 0
+  pub known : number_of (common m mem) ≡ 0 → number_of (oldest_rows m mem (map f (take 1 (waiting b)))) ≡ 0
       → Way step m mem (map append (map f (take 1 (waiting b)))) next mem.working → Known
-  known size sound own way =
+  known sound own way =
       let records : List Record = map f (take 1 (waiting b)) in
       let none = none-apply (oldest_rows m mem records) (oldest-refusals m mem records) own in
       let fits = common-fit m mem sound in
@@ -81,6 +78,4 @@ module _ {n : ℕ} (b : Buffer n) (f : Entry → Record) (step : Step) (m : Mode
         appends = record { way = way; fits = fits; room = oldest-room m mem records none };
         one = omega arith;
         some = omega arith;
-        short = omega (arith, size fits.clauses, length-waiting b);
-        narrow = common-narrow m mem sound;
       }

@@ -9,6 +9,7 @@ use lib.Dec.{leb, eqb}
 use lib.ListN.{length, take, replicate}
 use lib.Seq.{take_all}
 use Rattle.log_region.specs.Region.{slots_of}
+use Rattle.buffers.proofs.Waiting.{length-waiting}
 use Rattle.model.specs.Machine.{Machine as Model, Memory, lost_machine}
 use Rattle.model.specs.Consistent.{is_width}
 use Rattle.model.specs.Plan.{Op, Put, puts_of, planned, Outcome as ModelOutcome, written}
@@ -29,6 +30,7 @@ use Rattle.state.specs.Answers.{number_of_refusal}
 use Rattle.state.specs.View.{view}
 use Rattle.state.specs.HandedBack.{taken_fields}
 use Rattle.state.specs.Ended.{ended, Ends}
+use Rattle.steps.specs.Allowed.{Bounded}
 
 -- a width is a multiple of 8 from 8 to 512
 pub record Width (n : ℕ) : Type 0 where
@@ -52,6 +54,19 @@ module _ (m : Model) (mem : Memory) (zero : number_of (common m mem) ≡ 0) wher
 
   pub common-narrow : m.sizes.words ≤ 512
   common-narrow = (width m.sizes.words common-fit.clauses.width).most
+
+-- the numbers of a state that no common row refuses
+pub bounded : (s : Machine) (mem : Memory) → number_of (common (view s) mem) ≡ 0 → Bounded s
+bounded s mem zero =
+    let all = (common-fit (view s) mem zero).clauses in
+    let wide = width s.words all.width in
+    record {
+      words = wide.most;
+      round = wide.whole;
+      undos = omega (arith, length-waiting s.undos, all.undo_size);
+      redos = omega (arith, length-waiting s.redos, all.redo_size);
+      tail = all.tail;
+    }
 
 -- two outcomes are equal, if their parts are
 outcome-eq : (o p : ModelOutcome) → o.answer ≡ p.answer → o.left ≡ p.left → o.machine ≡ p.machine → o.memory ≡ p.memory → o ≡ p

@@ -14,7 +14,7 @@ use Rattle.model.proofs.Rows.{none-apply, own-refusals, room}
 use Rattle.model.proofs.Fit.{Fit}
 use Rattle.state.specs.declared.Machine.{Machine}
 use Rattle.state.specs.View.{view}
-use Rattle.steps.proofs.Outcome.{Width, width, common-fit}
+use Rattle.steps.proofs.Outcome.{common-fit}
 use Rattle.steps.proofs.AppendWays.{AppendWay}
 use Rattle.steps.proofs.LoggingOldest.{records-oldest}
 use Rattle.steps.proofs.StoreParts.{logs-most}
@@ -31,7 +31,6 @@ module _ (s : Machine) (mem : Memory) (t w v : ℕ) where
     pub fits : Fit (view s) mem
     pub thread : t < 8
     pub word : w < s.words
-    pub width : Width s.words
     pub appends : AppendWay (store t w v) (view s) mem (store_records (view s) mem w v) (store_next (view s) mem t w v (is_same mem w v)) (set mem.working w v)
 
   pub known : number_of (common (view s) mem) ≡ 0 → number_of (store_rows (view s) mem t w v) ≡ 0 → Known
@@ -42,6 +41,5 @@ module _ (s : Machine) (mem : Memory) (t w v : ℕ) where
         fits = fits;
         thread = omega (arith, ltb-false 7 t none.0);
         word = leb-false s.words w none.1.0;
-        width = width s.words fits.clauses.width;
         appends = record { way = record { first = zero; own = own; work = refl }; fits = fits; room = room (view s) mem _ none.1.1.1.1 };
       }

@@ -1,17 +1,18 @@
 // "Commit t": both buffers are logged, then the newest values of t's ULog words and the commit record; "lines held by t
 // become unheld and all Clean, and the transaction closes".
-ghost use Rattle.std.specs.Prelude.{◌≡◌, List, ℕ, ◌+◌, ◌%◌, ◌≤◌, ◌<◌, length, ◌*◌, ◌/◌, min};
+ghost use Rattle.std.specs.Prelude.{◌≡◌, List, ℕ, ◌+◌, ◌≤◌, ◌<◌, length, ◌*◌, ◌/◌, min};
 ghost use Rattle.log_region.specs.Region.{numbers};
 ghost use Rattle.lines.specs.Lines.{first_lines};
 ghost use Rattle.lines.specs.Newest.{newest_words};
 ghost use Rattle.log_region.specs.Appended.{Appended};
 ghost use Rattle.model.specs.Machine.{Memory};
-ghost use Rattle.model.specs.Refusals.{number_of, common as common_rows};
+ghost use Rattle.model.specs.Refusals.{number_of};
 ghost use Rattle.model.specs.Steps.{commit_records, commit_rows, commit_next};
 ghost use Rattle.state.specs.Answers.{refusal_number};
 ghost use Rattle.model.specs.Step.{commit};
 ghost use Rattle.state.specs.View.{view, memory};
 ghost use Rattle.state.specs.Ended.{Ends};
+ghost use Rattle.steps.specs.Allowed.{Allowed, Bounded};
 
 use buffers::{append_redos, append_undos, mark_logged};
 use lines::{append_newest, count_newest, release};
@@ -44,8 +45,7 @@ fn append_records(
 ) -> u64
     requires newest_value { newest ≡ length (newest_words (first_lines (min (state.now.words / 8) 64)
         state.now.lines) thread (8 * min (state.now.words / 8) 64)) }
-    requires sizes { (length working.now ≡ state.now.words) × ((state.now.words ≤ 512) × ((state.now.words % 8 ≡ 0)
-        × ((state.now.undos.len ≤ 16) × ((state.now.redos.len ≤ 32) × (state.now.tail ≤ numbers))))) }
+    requires sizes { (length working.now ≡ state.now.words) × Bounded state.now }
     ensures { (home : List ℕ) → Appended supply log.old state.now.tail
         (commit_records (view state.now) (memory home working.now log.old) thread) log.new result }
 {
@@ -63,8 +63,7 @@ fn append_records(
 
 // The state after its commit: nothing waits, and the thread's lines are released.
 fn close(state: &mut Machine, thread: usize, count: u64)
-    requires { (thread < 8) × ((state.old.words ≤ 512) × ((state.old.undos.len ≤ 16)
-        × (state.old.tail + count ≤ numbers))) }
+    requires { (thread < 8) × ((state.old.tail + count ≤ numbers) × Bounded state.old) }
     ensures { (mem : Memory) → count ≡ length (commit_records (view state.old) mem thread)
         → view state.new ≡ commit_next (view state.old) mem thread }
 {
@@ -86,7 +85,7 @@ pub(crate) fn committed(
     supply: u64,
     thread: u64,
 ) -> Result<u64, Stop>
-    requires { number_of (common_rows (view state.old) (memory home.now working.now log.old)) ≡ 0 }
+    requires { Allowed state.old home.now working.now log.old }
     ensures { Ends (commit thread) supply state.old (memory home.now working.now log.old)
         result state.new home.now working.now log.new }
 {

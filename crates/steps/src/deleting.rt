@@ -1,11 +1,12 @@
 // "Delete: one store, the head plus one": the oldest record goes, if the verdict on it allows it.
 ghost use Rattle.std.specs.Prelude.{◌≡◌};
-ghost use Rattle.model.specs.Refusals.{number_of, common as common_rows};
+ghost use Rattle.model.specs.Refusals.{number_of};
 ghost use Rattle.model.specs.Step.{delete_oldest};
 ghost use Rattle.model.specs.Steps.{verdict_rows};
 ghost use Rattle.state.specs.Answers.{refusal_number};
 ghost use Rattle.state.specs.View.{view, memory};
 ghost use Rattle.state.specs.Ended.{Ends};
+ghost use Rattle.steps.specs.Allowed.{Allowed};
 
 use oldest::verdict;
 use parts::Verdict;
@@ -31,7 +32,7 @@ pub(crate) fn deleted(
     log: &mut [u64],
     supply: u64,
 ) -> Result<u64, Stop>
-    requires { number_of (common_rows (view state.old) (memory home.now working.now log.old)) ≡ 0 }
+    requires { Allowed state.old home.now working.now log.old }
     ensures { Ends delete_oldest supply state.old (memory home.now working.now log.old)
         result state.new home.now working.now log.new }
 {

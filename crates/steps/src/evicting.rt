@@ -2,12 +2,13 @@
 // its words become Clean.
 ghost use Rattle.std.specs.Prelude.{◌≡◌, ◌<◌, ◌≤◌, ◌/◌};
 ghost use Rattle.model.specs.Machine.{Memory};
-ghost use Rattle.model.specs.Refusals.{number_of, common as common_rows};
+ghost use Rattle.model.specs.Refusals.{number_of};
 ghost use Rattle.model.specs.Step.{evict};
 ghost use Rattle.model.specs.Steps.{lacking, evict_rows};
 ghost use Rattle.state.specs.Answers.{refusal_number};
 ghost use Rattle.state.specs.View.{view, memory};
 ghost use Rattle.state.specs.Ended.{Ends};
+ghost use Rattle.steps.specs.Allowed.{Allowed, Bounded};
 
 use crate::logged::drop_redos;
 use crate::writing_back::line_refusal;
@@ -18,7 +19,7 @@ use state::{Machine, Refusal, Stop};
 
 // How many redo entries have to be logged for those of a line to find places.
 fn lacking(state: &Machine, at: usize) -> usize
-    requires { (at < state.now.words / 8) × ((state.now.words ≤ 512) × (state.now.redos.len ≤ 32)) }
+    requires { (at < state.now.words / 8) × Bounded state.now }
     ensures upper_bound { result ≤ state.now.redos.len }
     ensures value { (mem : Memory) → result ≡ lacking (view state.now) mem at }
 {
@@ -28,7 +29,7 @@ fn lacking(state: &Machine, at: usize) -> usize
 
 // The rows of an eviction.
 fn refusal(state: &Machine, log: &[u64], line: u64) -> Result<(), Refusal>
-    requires { (state.now.words ≤ 512) × (state.now.redos.len ≤ 32) }
+    requires { Bounded state.now }
     ensures { (mem : Memory) → mem.log ≡ log.now
         → refusal_number result ≡ number_of (evict_rows (view state.now) mem line) }
 {
@@ -45,7 +46,7 @@ pub(crate) fn evicted(
     supply: u64,
     line: u64,
 ) -> Result<u64, Stop>
-    requires { number_of (common_rows (view state.old) (memory home.now working.now log.old)) ≡ 0 }
+    requires { Allowed state.old home.now working.now log.old }
     ensures { Ends (evict line) supply state.old (memory home.now working.now log.old)
         result state.new home.now working.now log.new }
 {

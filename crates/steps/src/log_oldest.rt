@@ -2,12 +2,13 @@
 ghost use Rattle.std.specs.Prelude.{◌≡◌, List, min, length};
 ghost use Rattle.log_region.specs.declared.Record.{Record};
 ghost use Rattle.model.specs.Machine.{Memory};
-ghost use Rattle.model.specs.Refusals.{number_of, common as common_rows};
+ghost use Rattle.model.specs.Refusals.{number_of};
 ghost use Rattle.model.specs.Steps.{oldest_rows};
 ghost use Rattle.model.specs.Step.{log_undo, log_redo};
 ghost use Rattle.state.specs.Answers.{refusal_number};
 ghost use Rattle.state.specs.View.{view, memory};
 ghost use Rattle.state.specs.Ended.{Ends};
+ghost use Rattle.steps.specs.Allowed.{Allowed};
 
 use crate::logged::{drop_redos, drop_undos};
 use buffers::{append_redos, append_undos};
@@ -33,7 +34,7 @@ pub(crate) fn undo_logged(
     log: &mut [u64],
     supply: u64,
 ) -> Result<u64, Stop>
-    requires { number_of (common_rows (view state.old) (memory home.now working.now log.old)) ≡ 0 }
+    requires { Allowed state.old home.now working.now log.old }
     ensures { Ends log_undo supply state.old (memory home.now working.now log.old)
         result state.new home.now working.now log.new }
 {
@@ -54,7 +55,7 @@ pub(crate) fn redo_logged(
     log: &mut [u64],
     supply: u64,
 ) -> Result<u64, Stop>
-    requires { number_of (common_rows (view state.old) (memory home.now working.now log.old)) ≡ 0 }
+    requires { Allowed state.old home.now working.now log.old }
     ensures { Ends log_redo supply state.old (memory home.now working.now log.old)
         result state.new home.now working.now log.new }
 {

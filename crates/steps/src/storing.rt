@@ -1,13 +1,13 @@
 // "Store t, word, value": the line is claimed, and another value is stored by the word's state.
-ghost use Rattle.std.specs.Prelude.{◌≡◌, ◌%◌, ◌≤◌, ◌<◌, eqb, get_or, length};
-ghost use Rattle.log_region.specs.Region.{numbers};
+ghost use Rattle.std.specs.Prelude.{◌≡◌, ◌<◌, eqb, get_or, length};
 ghost use Rattle.model.specs.Machine.{Memory};
-ghost use Rattle.model.specs.Refusals.{number_of, common as common_rows};
+ghost use Rattle.model.specs.Refusals.{number_of};
 ghost use Rattle.model.specs.Step.{store};
 ghost use Rattle.model.specs.Steps.{held_by_another, store_logs, store_rows, store_next};
 ghost use Rattle.state.specs.Answers.{refusal_number};
 ghost use Rattle.state.specs.View.{view, memory};
 ghost use Rattle.state.specs.Ended.{Ends};
+ghost use Rattle.steps.specs.Allowed.{Allowed, Bounded};
 
 use crate::logged::drop_undos;
 use buffers::append_undos;
@@ -18,7 +18,7 @@ use state::{Machine, Refusal, Stop};
 
 // A thread other than this one holds the line of the word.
 fn held_by_another(state: &Machine, thread: u64, word: u16) -> bool
-    requires { (word < state.now.words) × (state.now.words ≤ 512) × (state.now.words % 8 ≡ 0) }
+    requires { (word < state.now.words) × Bounded state.now }
     ensures { result ≡ held_by_another (view state.now) thread word }
 {
     let holder = holder_of(&state.lines, word);
@@ -27,7 +27,7 @@ fn held_by_another(state: &Machine, thread: u64, word: u16) -> bool
 
 // How many entries a store logs first: the oldest, if another value comes to a Clean word and 16 entries wait.
 fn logs_first(state: &Machine, word: u16, same: bool) -> usize
-    requires { (word < state.now.words) × (state.now.words ≤ 512) × (state.now.words % 8 ≡ 0) }
+    requires { (word < state.now.words) × Bounded state.now }
     ensures { result ≡ store_logs (view state.now) word same }
 {
     let clean = state_of(&state.lines, word) == WordState::Clean;
@@ -37,9 +37,7 @@ fn logs_first(state: &Machine, word: u16, same: bool) -> usize
 // What a store that replaces `entry.undo` by `entry.redo` does to the state; the `count` oldest undo+redo entries were
 // logged first.
 fn take_in(state: &mut Machine, entry: Entry, count: usize)
-    requires len_bound { (state.old.undos.len ≤ 16) × ((state.old.redos.len ≤ 32) × (state.old.tail ≤ numbers)) }
-    requires thread_bound { (entry.thread < 8) × ((entry.word < state.old.words) × ((state.old.words ≤ 512)
-        × (state.old.words % 8 ≡ 0))) }
+    requires bounds { (entry.thread < 8) × ((entry.word < state.old.words) × Bounded state.old) }
     requires count_value { count ≡ store_logs (view state.old) entry.word (eqb entry.redo entry.undo) }
     ensures { (mem : Memory) → get_or mem.working entry.word 0 ≡ entry.undo
         → view state.new ≡ store_next (view state.old) mem entry.thread entry.word entry.redo (eqb entry.redo
@@ -75,7 +73,7 @@ pub(crate) struct Target {
 
 // The rows of a store, on buffers of W words.
 fn refusal(state: &Machine, working: &[u64], log: &[u64], target: Target) -> Result<(), Refusal>
-    requires { (length working.now ≡ state.now.words) × ((state.now.words ≤ 512) × (state.now.words % 8 ≡ 0)) }
+    requires { (length working.now ≡ state.now.words) × Bounded state.now }
     ensures { (mem : Memory) → mem.working ≡ working.now → mem.log ≡ log.now → refusal_number result
         ≡ number_of (store_rows (view state.now) mem target.thread target.word target.value) }
 {
@@ -105,7 +103,7 @@ pub(crate) fn stored(
     supply: u64,
     target: Target,
 ) -> Result<u64, Stop>
-    requires { number_of (common_rows (view state.old) (memory home.now working.old log.old)) ≡ 0 }
+    requires { Allowed state.old home.now working.old log.old }
     ensures { Ends (store target.thread target.word target.value) supply state.old
         (memory home.now working.old log.old) result state.new home.now working.new log.new }
 {

@@ -11,7 +11,7 @@ pub returns : goal.returns
 returns c home =
     let s = c.args.state.now in
     let p = c.requires.sizes in
-    commit-appended s c.args.thread home c.args.working.now c.args.log.now p.0 p.1.0 p.1.1.0 p.1.1.1.0 p.1.1.1.1.0
+    commit-appended s c.args.thread home c.args.working.now c.args.log.now p.0 p.1
     c.oldest-undos.result.now c.oldest-redos.result.now c.args.newest c.oldest-undos.ensures
     c.oldest-redos.ensures c.requires.newest_value c.append_undos-after_undos.ensures
     c.append_redos-after_redos.ensures c.append_newest-after_newest.ensures c.append.ensures.value

@@ -14,8 +14,8 @@ pub returns : goal.returns
 returns c mem counted =
     let s = c.args.state.now in
     commit-next s mem c.args.thread c.args.count c.mark_logged.new.lines _ c.clear.new.self c.clear-2.new.self
-    (search rules) c.requires.1.0 counted
+    (search rules) c.requires.1.1.words counted
     (c.mark_logged.ensures
-    ∙ ap (λ (es : List Entry). all_logged es s.lines) (c.oldest.ensures ∙ oldest-all s.undos c.requires.1.1.0))
+    ∙ ap (λ (es : List Entry). all_logged es s.lines) (c.oldest.ensures ∙ oldest-all s.undos c.requires.1.1.undos))
     (ap (λ (ls : List Line). ls ++ drop (s.words / 8) c.mark_logged.new.lines) c.release.ensures)
     c.clear.ensures c.clear-2.ensures

@@ -10,9 +10,10 @@ use Rattle.model.specs.Steps.{commit_records, commit_rows, commit_next}
 use Rattle.model.specs.Step.{commit}
 use Rattle.state.specs.declared.Machine.{Machine}
 use Rattle.state.specs.View.{view, memory}
-use Rattle.steps.proofs.Outcome.{refused-way}
+use Rattle.steps.specs.Allowed.{Bounded}
+use Rattle.steps.proofs.Outcome.{bounded, refused-way}
 use Rattle.steps.proofs.AppendWays.{AppendWay, append-done, append-cut}
-use Rattle.steps.proofs.Commits.{Sizes, sizes, commit-count, commit-few, known-thread, commit-appends, commit-numbered}
+use Rattle.steps.proofs.Commits.{commit-count, commit-few, known-thread, commit-appends, commit-numbered}
 use Rattle.steps.proofs.committing.committed.Goals as goal
 use Rattle.steps.proofs.committing.committed.Goals.{Start, In_ok-refusal, After-count_newest-newest}
 
@@ -20,8 +21,8 @@ abbrev lent : (c : Start) → Memory
 lent c = memory c.args.home.now c.args.working.now c.args.log.now
 
 -- no common row applies
-size : (c : Start) → Sizes c.args.state.now
-size c = sizes c.args.state.now (lent c) c.requires
+size : (c : Start) → Bounded c.args.state.now
+size c = bounded c.args.state.now (lent c) c.requires
 
 -- as many records as are counted, of which few are newest values
 counted : (c : After-count_newest-newest)
@@ -29,8 +30,7 @@ counted : (c : After-count_newest-newest)
     ≡ length (commit_records (view c.args.state.now) (lent (goal.at.After-count_newest-newest c).Start) c.args.thread)
 counted c =
     let start = (goal.at.After-count_newest-newest c).Start in
-    let z = size start in
-    commit-count c.args.state.now (lent start) c.args.thread c.count_newest-newest.result z.words z.round c.count_newest-newest.ensures
+    commit-count c.args.state.now (lent start) c.args.thread c.count_newest-newest.result (size start) c.count_newest-newest.ensures
 
 few : (c : After-count_newest-newest) → c.count_newest-newest.result ≤ 512
 few c = commit-few c.args.state.now c.args.thread c.count_newest-newest.result c.count_newest-newest.ensures
@@ -68,10 +68,9 @@ overflow_cast-thread c = omega (arith, known (goal.at.overflow_cast-thread c).In
 pub append_records-left-requires : goal.append_records-left-requires
 append_records-left-requires c =
     let at = goal.at.append_records-left-requires c in
-    let z = size at.Start in
     record {
       newest_value = c.count_newest-newest.ensures;
-      sizes = ((appends at.In_ok-refusal).fits.working, (z.words, (z.round, (z.undos, (z.redos, z.tail)))));
+      sizes = ((appends at.In_ok-refusal).fits.working, size at.Start);
     }
 
 pub returns-then-supply-count : goal.returns-then-supply-count
@@ -86,12 +85,11 @@ pub close-requires : goal.close-requires
 close-requires c =
     let a = c.args in
     let at = goal.at.close-requires c in
-    let z = size at.Start in
     let on = at.In_ok-refusal in
     let numbered =
     commit-numbered c.args.state.now (lent at.Start) c.requires c.args.thread (own on) (a.state.now.undos.len + a.state.now.redos.len + c.count_newest-newest.result + 1)
     (counted at.After-count_newest-newest) in
-    (known on, (z.words, (z.undos, numbered)))
+    (known on, (numbered, size at.Start))
 
 pub returns : goal.returns
 returns c =

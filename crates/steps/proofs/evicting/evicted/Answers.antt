@@ -1,5 +1,5 @@
 -- `evicted` meets its contract: refused by a row of its own, cut, or done.
-use Prim.Native.Nat.{◌≤◌, ◌<◌}
+use Prim.Native.Nat.{◌<◌}
 use mathlib.Core.Path.{◌≡◌, refl, ap, ◌∙◌}
 use native.Mathlib.Omega.{arith}
 use borrow.Author.Rules.{rules}
@@ -8,27 +8,27 @@ use lib.Seq.{set-get_or}
 use Rattle.std.proofs.lemmas.Result.{err_from_is_err_and}
 use Rattle.log_region.specs.Appended.{Appended}
 use Rattle.buffers.specs.Waiting.{waiting}
-use Rattle.buffers.proofs.Waiting.{length-waiting, present-waiting}
+use Rattle.buffers.proofs.Waiting.{present-waiting}
 use Rattle.model.specs.Machine.{Memory}
 use Rattle.model.specs.Refusals.{number_of}
 use Rattle.model.specs.Steps.{lacking, evict_records, evict_rows, evict_next}
 use Rattle.model.specs.Step.{evict}
 use Rattle.state.specs.declared.Machine.{Machine}
 use Rattle.state.specs.View.{view, memory}
-use Rattle.steps.proofs.Outcome.{common-fit, common-narrow, refused-way}
+use Rattle.steps.specs.Allowed.{Bounded}
+use Rattle.steps.proofs.Outcome.{bounded, refused-way}
 use Rattle.steps.proofs.AppendWays.{AppendWay, append-done, append-cut}
 use Rattle.steps.proofs.LineRows.{LineFit}
-use Rattle.steps.proofs.Eviction.{evict-size, evict-fit, evict-appends, evict-numbered, evict-next}
+use Rattle.steps.proofs.Eviction.{evict-size, evict-fit, evict-appends, evict-next}
 use Rattle.steps.proofs.evicting.evicted.Goals as goal
 use Rattle.steps.proofs.evicting.evicted.Goals.{Start, In_ok-refusal, After-lacking-count, After-append_redos-left}
 
 abbrev lent : (c : Start) → Memory
 lent c = memory c.args.home.now c.args.working.now c.args.log.now
 
-few : (c : Start) → c.args.state.now.redos.len ≤ 32
-few c =
-    let fits = common-fit (view c.args.state.now) (lent c) c.requires in
-    omega (arith, length-waiting c.args.state.now.redos, fits.clauses.redo_size)
+-- no common row applies
+size : (c : Start) → Bounded c.args.state.now
+size c = bounded c.args.state.now (lent c) c.requires
 
 -- no row applies, once it goes on
 module _ (c : In_ok-refusal) where
@@ -74,13 +74,11 @@ appended c =
     let at = goal.at.After-append_redos-left c in
     let redos = c.args.state.now.redos in
     let oldest : c.oldest.result.now ≡ take c.lacking-count.result (waiting redos) =
-    c.oldest.ensures ∙ ap (take c.lacking-count.result) (present-waiting redos (few at.Start)) in
+    c.oldest.ensures ∙ ap (take c.lacking-count.result) (present-waiting redos (size at.Start).redos) in
     rw (oldest, lacks at.After-lacking-count) at c.append_redos-left.ensures
 
 pub refusal-requires : goal.refusal-requires
-refusal-requires c =
-    let first = (goal.at.refusal-requires c).Start in
-    (common-narrow (view c.args.state.now) (lent first) c.requires, few first)
+refusal-requires c = size (goal.at.refusal-requires c).Start
 
 pub returns-in_err-refusal : goal.returns-in_err-refusal
 returns-in_err-refusal c =
@@ -94,11 +92,10 @@ returns-in_err-refusal c =
 pub lacking-count-requires : goal.lacking-count-requires
 lacking-count-requires c =
     let at = goal.at.lacking-count-requires c in
-    let fit = passed at.In_ok-refusal in
-    (fit.below, (fit.narrow, few at.Start))
+    ((passed at.In_ok-refusal).below, size at.Start)
 
 pub overflow_mul-count : goal.overflow_mul-count
-overflow_mul-count c = omega (arith, few (goal.at.overflow_mul-count c).Start, c.lacking-count.ensures.upper_bound)
+overflow_mul-count c = omega (arith, (size (goal.at.overflow_mul-count c).Start).redos, c.lacking-count.ensures.upper_bound)
 
 pub returns-then-supply-count : goal.returns-then-supply-count
 returns-then-supply-count c =
@@ -109,14 +106,7 @@ returns-then-supply-count c =
     (appended at.After-append_redos-left) refl
 
 pub drop_redos-requires : goal.drop_redos-requires
-drop_redos-requires c =
-    let a = c.args in
-    let at = goal.at.drop_redos-requires c in
-    let count = c.lacking-count in
-    let numbered =
-    evict-numbered a.state.now (lent at.Start) a.line c.requires (own at.In_ok-refusal) count.result
-    (lacks at.After-lacking-count) count.ensures.upper_bound in
-    (count.ensures.upper_bound, (few at.Start, omega arith))
+drop_redos-requires c = (c.lacking-count.ensures.upper_bound, size (goal.at.drop_redos-requires c).Start)
 
 pub offset_bounds-state-at : goal.offset_bounds-state-at
 offset_bounds-state-at c = omega (arith, place (goal.at.offset_bounds-state-at c).In_ok-refusal)
@@ -139,5 +129,5 @@ returns c =
     c.append_redos-left.new.log (records at.After-lacking-count) c.if-supply-count.false
     (appended at.After-append_redos-left)
     (evict-next a.state.now (lent at.Start) a.line c.requires (own at.In_ok-refusal) c.drop_redos.new.state count.result
-    (lacks at.After-lacking-count) count.ensures.upper_bound (few at.Start) c.drop_redos.ensures
+    (lacks at.After-lacking-count) count.ensures.upper_bound c.drop_redos.ensures
     c.add_ulog_words.new.self _ (search rules) c.add_ulog_words.ensures (simp set-get_or))

@@ -1,7 +1,6 @@
 -- `undo_logged` ends as the model's step does: refused, cut, or done with the oldest undo+redo entry logged.
 use mathlib.Core.Path.{refl, sym}
 use mathlib.Core.List.{List, map}
-use native.Mathlib.Omega.{arith}
 use lib.ListN.{take}
 use Rattle.log_region.specs.declared.Record.{Record}
 use Rattle.log_region.specs.Appended.{Appended}
@@ -12,6 +11,7 @@ use Rattle.model.specs.Steps.{undo_redo_record, undos_logged}
 use Rattle.model.specs.Step.{log_undo}
 use Rattle.state.specs.declared.Machine.{Machine}
 use Rattle.state.specs.View.{view, memory}
+use Rattle.steps.proofs.Outcome.{bounded}
 use Rattle.steps.proofs.Refused.{refused-by}
 use Rattle.steps.proofs.AppendWays.{append-done, append-cut}
 use Rattle.steps.proofs.LoggingOldest.{count-oldest, Known, known}
@@ -39,14 +39,14 @@ here c =
     let s = c.args.state.now in
     let mem = lent (goal.at.In_ok-refusal c).Start in
     let own = sym (c.in_ok-refusal.ensures mem (records s) refl (count-oldest s.undos undo_redo_record)) in
-    known s.undos undo_redo_record log_undo (view s) mem (undos_logged 1 (view s)) (λ d. d.undo_size) c.requires own
+    known s.undos undo_redo_record log_undo (view s) mem (undos_logged 1 (view s)) c.requires own
     (record { first = c.requires; own = own; work = refl })
 
 -- the record is appended
 logged : (c : After-append_undos-left) → Appended c.args.supply c.args.log.now c.args.state.now.tail (records c.args.state.now) c.append_undos-left.new.log c.append_undos-left.result
 logged c =
-    let k = here (goal.at.After-append_undos-left c).In_ok-refusal in
-    rw (c.oldest.ensures, present-waiting c.args.state.now.undos k.short) at c.append_undos-left.ensures
+    let b = bounded c.args.state.now (lent (goal.at.After-append_undos-left c).Start) c.requires in
+    rw (c.oldest.ensures, present-waiting c.args.state.now.undos b.undos) at c.append_undos-left.ensures
 
 pub returns-then-supply-lt3 : goal.returns-then-supply-lt3
 returns-then-supply-lt3 c =
@@ -58,9 +58,8 @@ returns-then-supply-lt3 c =
 
 pub drop_undos-requires : goal.drop_undos-requires
 drop_undos-requires c =
-    let k = here (goal.at.drop_undos-requires c).In_ok-refusal in
-    let tail = k.appends.fits.clauses.tail in
-    (k.some, (k.short, (omega arith, k.narrow)))
+    let at = goal.at.drop_undos-requires c in
+    ((here at.In_ok-refusal).some, bounded c.args.state.now (lent at.Start) c.requires)
 
 pub returns : goal.returns
 returns c =

@@ -5,12 +5,13 @@ use native.Mathlib.Omega.{arith}
 use lib.Dec.{eqb}
 use lib.ListN.{length, get_or}
 use Rattle.log_region.specs.Appended.{Appended}
-use Rattle.buffers.proofs.Waiting.{length-waiting, present-waiting}
+use Rattle.buffers.proofs.Waiting.{present-waiting}
 use Rattle.model.specs.Machine.{Memory}
 use Rattle.model.specs.Steps.{store_records}
 use Rattle.model.specs.Step.{store}
 use Rattle.state.specs.View.{view, memory}
-use Rattle.steps.proofs.Outcome.{width, common-fit}
+use Rattle.steps.specs.Allowed.{Bounded}
+use Rattle.steps.proofs.Outcome.{common-fit, bounded}
 use Rattle.steps.proofs.Refused.{refused-by}
 use Rattle.steps.proofs.AppendWays.{append-done, append-cut}
 use Rattle.steps.proofs.StoreParts.{logs-most}
@@ -22,11 +23,14 @@ use Rattle.steps.proofs.storing.stored.Goals.{After-append_undos-left, After-log
 abbrev lent : (c : Start) → Memory
 lent c = memory c.args.home.now c.args.working.now c.args.log.now
 
+-- no common row applies
+size : (c : Start) → Bounded c.args.state.now
+size c = bounded c.args.state.now (lent c) c.requires
+
 pub refusal-requires : goal.refusal-requires
 refusal-requires c =
-    let fits = common-fit (view c.args.state.now) (lent (goal.at.refusal-requires c).Start) c.requires in
-    let w = width c.args.state.now.words fits.clauses.width in
-    (fits.working, (w.most, w.whole))
+    let start = (goal.at.refusal-requires c).Start in
+    ((common-fit (view c.args.state.now) (lent start) c.requires).working, size start)
 
 pub returns-in_err-refusal : goal.returns-in_err-refusal
 returns-in_err-refusal c =
@@ -46,18 +50,22 @@ pub overflow_cast-entry : goal.overflow_cast-entry
 overflow_cast-entry c = let thread = (here (goal.at.overflow_cast-entry c).In_ok-refusal).thread in omega arith
 
 pub overflow_cast-entry-2 : goal.overflow_cast-entry-2
-overflow_cast-entry-2 c = let k = here (goal.at.overflow_cast-entry-2 c).In_ok-refusal in omega (arith, k.word, k.width.most)
+overflow_cast-entry-2 c =
+    let at = goal.at.overflow_cast-entry-2 c in
+    omega (arith, (here at.In_ok-refusal).word, (size at.Start).words)
 
 pub offset_bounds-working-at : goal.offset_bounds-working-at
-offset_bounds-working-at c = let k = here (goal.at.offset_bounds-working-at c).In_ok-refusal in omega (arith, k.word, k.width.most)
+offset_bounds-working-at c =
+    let at = goal.at.offset_bounds-working-at c in
+    omega (arith, (here at.In_ok-refusal).word, (size at.Start).words)
 
 pub bounds-working-at : goal.bounds-working-at
 bounds-working-at c = let k = here (goal.at.bounds-working-at c).In_ok-refusal in omega (arith, k.word, k.fits.working)
 
 pub logs_first-count-requires : goal.logs_first-count-requires
 logs_first-count-requires c =
-    let k = here (goal.at.logs_first-count-requires c).In_ok-refusal in
-    (k.word, k.width.most, k.width.whole)
+    let at = goal.at.logs_first-count-requires c in
+    ((here at.In_ok-refusal).word, size at.Start)
 
 -- one entry is logged first at most
 few : (c : After-logs_first-count) → c.logs_first-count.result ≤ 1
@@ -82,10 +90,8 @@ module _ (c : After-append_undos-left) where
   logged : Appended c.args.supply c.args.log.now c.args.state.now.tail
       (store_records (view c.args.state.now) mem c.args.target.word c.args.target.value) c.append_undos-left.new.log c.append_undos-left.result
   logged =
-      let k = here (goal.at.After-append_undos-left c).In_ok-refusal in
-      let b = c.args.state.now.undos in
-      let short : b.len ≤ 16 = omega (arith, length-waiting b, k.fits.clauses.undo_size) in
-      rw (c.oldest.ensures, present-waiting b short, c.logs_first-count.ensures) at c.append_undos-left.ensures
+      let b = size (goal.at.After-append_undos-left c).Start in
+      rw (c.oldest.ensures, present-waiting c.args.state.now.undos b.undos, c.logs_first-count.ensures) at c.append_undos-left.ensures
 
 pub returns-then-supply-count : goal.returns-then-supply-count
 returns-then-supply-count c =
@@ -97,16 +103,11 @@ returns-then-supply-count c =
 pub bounds-working-at-2 : goal.bounds-working-at-2
 bounds-working-at-2 c = let k = here (goal.at.bounds-working-at-2 c).In_ok-refusal in omega (arith, k.word, k.fits.working)
 
-pub take_in-requires-clause-len_bound : goal.take_in-requires-clause-len_bound
-take_in-requires-clause-len_bound c =
-    let f = (here (goal.at.take_in-requires-clause-len_bound c).In_ok-refusal).fits.clauses in
-    let s = c.args.state.now in
-    (omega (arith, length-waiting s.undos, f.undo_size), (omega (arith, length-waiting s.redos, f.redo_size), f.tail))
-
-pub take_in-requires-clause-thread_bound : goal.take_in-requires-clause-thread_bound
-take_in-requires-clause-thread_bound c =
-    let k = here (goal.at.take_in-requires-clause-thread_bound c).In_ok-refusal in
-    (k.thread, (k.word, (k.width.most, k.width.whole)))
+pub take_in-requires-clause-bounds : goal.take_in-requires-clause-bounds
+take_in-requires-clause-bounds c =
+    let at = goal.at.take_in-requires-clause-bounds c in
+    let k = here at.In_ok-refusal in
+    (k.thread, (k.word, size at.Start))
 
 pub returns : goal.returns
 returns c =

@@ -46,7 +46,8 @@ drop_undos-requires c =
     let h = c.requires in
     let (one, most) = logs-most (view s) e.word (eqb e.redo e.undo) in
     let len = length-waiting s.undos in
-    (omega arith, (omega arith, (omega arith, omega arith)))
+    let b = h.bounds.1.1 in
+    (omega arith, record { words = b.words; round = b.round; undos = b.undos; redos = b.redos; tail = b.tail })
 
 -- another value comes, and the line is claimed
 module _ (c : Else-entry) where

@@ -8,7 +8,7 @@ use Rattle.model.specs.Steps.{line_rows}
 use Rattle.model.specs.Step.{write_back}
 use Rattle.state.specs.declared.Machine.{Machine}
 use Rattle.state.specs.View.{view, memory}
-use Rattle.steps.proofs.Outcome.{common-narrow, refused-way}
+use Rattle.steps.proofs.Outcome.{bounded, refused-way}
 use Rattle.std.proofs.Common.{rules, List, length}
 use Rattle.parts.specs.declared.Line.{Line}
 use Rattle.lines.specs.Lines.{first_lines}
@@ -22,7 +22,7 @@ use Rattle.steps.proofs.writing_back.written_back.Goals as goal
 pub line_refusal-requires : goal.line_refusal-requires
 line_refusal-requires c =
     let a = c.args in
-    common-narrow (view a.state.now) (memory a.home.now a.working.now a.log.now) c.requires
+    bounded a.state.now (memory a.home.now a.working.now a.log.now) c.requires
 
 pub returns-in_err-line_refusal : goal.returns-in_err-line_refusal
 returns-in_err-line_refusal c =

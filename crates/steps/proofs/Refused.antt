@@ -1,8 +1,9 @@
 -- What a step hands back once its rows refuse it.
 use Prim.Native.Nat.{ℕ}
-use mathlib.Core.Path.{◌≡◌, ap}
-use Rattle.std.specs.Prelude.{Result, Ok, Err}
+use mathlib.Core.Path.{◌≡◌, ◌∙◌, ap}
+use Rattle.std.specs.Prelude.{Result, Err}
 use Rattle.std.specs.Result.{IsErr, IsErrAnd}
+use Rattle.std.proofs.lemmas.Result.{err_from_is_err_and}
 use Rattle.model.specs.Machine.{Memory}
 use Rattle.model.specs.Refusals.{number_of}
 use Rattle.model.specs.Step.{Step, first_rows, own_rows, taken}
@@ -18,8 +19,7 @@ use Rattle.steps.proofs.Outcome.{refused-way}
 
 -- the refusal that `?` hands on
 pub handed-on : (r : Result ℕ Stop) (n : Refusal) → IsErr r × IsErrAnd r (λ e. e ≡ Refused n) → r ≡ Err (Refused n)
-handed-on (Ok left) n e = absurd e.1
-handed-on (Err stop) n e = ap Err e.1
+handed-on r n e = let p = err_from_is_err_and r e.1 in p.1 ∙ ap Err p.2
 
 -- it is that of the step's own rows
 pub refused-by : (s : Step) (c : ℕ) (state : Machine) (mem : Memory) → number_of (first_rows s (view state) mem) ≡ 0

@@ -13,16 +13,15 @@ use Rattle.state.specs.View.{view, memory}
 use native.Mathlib.Omega.{arith}
 use Rattle.std.specs.Prelude.{[]}
 use Rattle.model.specs.Step.{begin}
-use Rattle.steps.proofs.Outcome.{Way, refused-way, done-way}
-use Rattle.steps.proofs.Refused.{handed-on}
+use Rattle.steps.proofs.Outcome.{Way, done-way}
+use Rattle.steps.proofs.Refused.{refused-by}
 use Rattle.steps.proofs.beginning.begun.Goals as goal
 
 pub returns-in_err-refusal : goal.returns-in_err-refusal
 returns-in_err-refusal c mem =
     let a = c.args in
-    let n = c.in_err-refusal.field-0.0 in
-    rw (handed-on c.from_residual.result n c.from_residual.ensures)
-    (refused-way (begin a.thread) a.supply a.state.now mem c.requires n c.in_err-refusal.ensures refl refl)
+    refused-by (begin a.thread) a.supply a.state.now mem c.requires c.in_err-refusal.field-0.0
+    c.in_err-refusal.ensures refl refl c.from_residual.result c.from_residual.ensures
 
 -- where no row applies the thread is known
 thread-known : (m : Machine) (mem : Memory) (t : ℕ) → 0 ≡ number_of (begin_rows m t) → t < 8

@@ -3,7 +3,6 @@ use Prim.Native.Nat.{◌+◌, ◌≤◌, ◌<◌}
 use mathlib.Core.Path.{◌≡◌, refl, sym}
 use native.Mathlib.Omega.{arith}
 use lib.ListN.{length}
-use Rattle.std.proofs.lemmas.Result.{err_from_is_err_and}
 use Rattle.model.specs.Machine.{Memory}
 use Rattle.model.specs.Refusals.{number_of}
 use Rattle.model.specs.Steps.{commit_records, commit_rows, commit_next}
@@ -11,7 +10,8 @@ use Rattle.model.specs.Step.{commit}
 use Rattle.state.specs.declared.Machine.{Machine}
 use Rattle.state.specs.View.{view, memory}
 use Rattle.steps.specs.Allowed.{Bounded}
-use Rattle.steps.proofs.Outcome.{bounded, refused-way}
+use Rattle.steps.proofs.Outcome.{bounded}
+use Rattle.steps.proofs.Refused.{refused-by}
 use Rattle.steps.proofs.AppendWays.{AppendWay, append-done, append-cut}
 use Rattle.steps.proofs.Commits.{commit-count, commit-few, known-thread, commit-appends, commit-numbered}
 use Rattle.steps.proofs.committing.committed.Goals as goal
@@ -56,11 +56,10 @@ module _ (c : In_ok-refusal) where
 pub returns-in_err-refusal : goal.returns-in_err-refusal
 returns-in_err-refusal c =
     let a = c.args in
-    let n = c.in_err-refusal.field-0.0 in
-    let m : Memory = lent (goal.at.returns-in_err-refusal c).Start in
-    let p = err_from_is_err_and c.from_residual.result c.from_residual.ensures.1 in
-    rw (p.1, p.2)
-    (refused-way (commit a.thread) a.supply a.state.now m c.requires n (c.in_err-refusal.ensures m refl (counted (goal.at.returns-in_err-refusal c).After-count_newest-newest)) refl refl)
+    let at = goal.at.returns-in_err-refusal c in
+    let mem = lent at.Start in
+    refused-by (commit a.thread) a.supply a.state.now mem c.requires c.in_err-refusal.field-0.0
+    (c.in_err-refusal.ensures mem refl (counted at.After-count_newest-newest)) refl refl c.from_residual.result c.from_residual.ensures
 
 pub overflow_cast-thread : goal.overflow_cast-thread
 overflow_cast-thread c = omega (arith, known (goal.at.overflow_cast-thread c).In_ok-refusal)

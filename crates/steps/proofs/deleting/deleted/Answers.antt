@@ -6,8 +6,8 @@ use Rattle.model.specs.Refusals.{number_of}
 use Rattle.model.specs.Steps.{verdict_rows}
 use Rattle.model.specs.Step.{delete_oldest}
 use Rattle.state.specs.View.{view, memory}
-use Rattle.steps.proofs.Outcome.{common-fit, refused-way}
-use Rattle.steps.proofs.Refused.{handed-on}
+use Rattle.steps.proofs.Outcome.{common-fit}
+use Rattle.steps.proofs.Refused.{refused-by}
 use Rattle.steps.proofs.DeleteStep.{delete-cut, delete-done}
 use Rattle.steps.proofs.deleting.deleted.Goals as goal
 
@@ -15,10 +15,10 @@ pub returns-in_err-refusal : goal.returns-in_err-refusal
 returns-in_err-refusal c =
     let a = c.args in
     let mem = memory a.home.now a.working.now a.log.now in
-    let n = c.in_err-refusal.field-0.0 in
-    rw (handed-on c.from_residual.result n c.from_residual.ensures)
-    (refused-way delete_oldest a.supply a.state.now mem c.requires n
-    (c.in_err-refusal.ensures ∙ ap (λ (v : Verdict). number_of (verdict_rows v)) (c.verdict.ensures mem refl)) refl refl)
+    let number =
+    c.in_err-refusal.ensures ∙ ap (λ (v : Verdict). number_of (verdict_rows v)) (c.verdict.ensures mem refl) in
+    refused-by delete_oldest a.supply a.state.now mem c.requires c.in_err-refusal.field-0.0
+    number refl refl c.from_residual.result c.from_residual.ensures
 
 pub overflow_add-head : goal.overflow_add-head
 overflow_add-head c =

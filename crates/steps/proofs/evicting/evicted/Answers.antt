@@ -5,7 +5,6 @@ use native.Mathlib.Omega.{arith}
 use borrow.Author.Rules.{rules}
 use lib.ListN.{length, take}
 use lib.Seq.{set-get_or}
-use Rattle.std.proofs.lemmas.Result.{err_from_is_err_and}
 use Rattle.log_region.specs.Appended.{Appended}
 use Rattle.buffers.specs.Waiting.{waiting}
 use Rattle.buffers.proofs.Waiting.{present-waiting}
@@ -16,7 +15,8 @@ use Rattle.model.specs.Step.{evict}
 use Rattle.state.specs.declared.Machine.{Machine}
 use Rattle.state.specs.View.{view, memory}
 use Rattle.steps.specs.Allowed.{Bounded}
-use Rattle.steps.proofs.Outcome.{bounded, refused-way}
+use Rattle.steps.proofs.Outcome.{bounded}
+use Rattle.steps.proofs.Refused.{refused-by}
 use Rattle.steps.proofs.AppendWays.{AppendWay, append-done, append-cut}
 use Rattle.steps.proofs.LineRows.{LineFit}
 use Rattle.steps.proofs.Eviction.{evict-size, evict-fit, evict-appends, evict-next}
@@ -83,11 +83,9 @@ refusal-requires c = size (goal.at.refusal-requires c).Start
 pub returns-in_err-refusal : goal.returns-in_err-refusal
 returns-in_err-refusal c =
     let a = c.args in
-    let n = c.in_err-refusal.field-0.0 in
-    let m : Memory = lent (goal.at.returns-in_err-refusal c).Start in
-    let p = err_from_is_err_and c.from_residual.result c.from_residual.ensures.1 in
-    rw (p.1, p.2)
-    (refused-way (evict a.line) a.supply a.state.now m c.requires n (c.in_err-refusal.ensures m refl) refl refl)
+    let mem = lent (goal.at.returns-in_err-refusal c).Start in
+    refused-by (evict a.line) a.supply a.state.now mem c.requires c.in_err-refusal.field-0.0
+    (c.in_err-refusal.ensures mem refl) refl refl c.from_residual.result c.from_residual.ensures
 
 pub lacking-count-requires : goal.lacking-count-requires
 lacking-count-requires c =

@@ -8,14 +8,14 @@ use Rattle.model.specs.Steps.{line_rows}
 use Rattle.model.specs.Step.{write_back}
 use Rattle.state.specs.declared.Machine.{Machine}
 use Rattle.state.specs.View.{view, memory}
-use Rattle.steps.proofs.Outcome.{bounded, refused-way}
+use Rattle.steps.proofs.Outcome.{bounded}
 use Rattle.std.proofs.Common.{rules, List, length}
 use Rattle.parts.specs.declared.Line.{Line}
 use Rattle.lines.specs.Lines.{first_lines}
 use Rattle.lines.proofs.LinesInUse.{changed-there, first-changed}
 use Rattle.model.specs.Machine.{with_lines, dirty_as}
 use mathlib.Core.Bool.{false}
-use Rattle.steps.proofs.Refused.{handed-on}
+use Rattle.steps.proofs.Refused.{refused-by}
 use Rattle.steps.proofs.WritingBack.{write-fit, write-cut, write-done}
 use Rattle.steps.proofs.writing_back.written_back.Goals as goal
 
@@ -27,9 +27,9 @@ line_refusal-requires c =
 pub returns-in_err-line_refusal : goal.returns-in_err-line_refusal
 returns-in_err-line_refusal c =
     let a = c.args in
-    let n = c.in_err-line_refusal.field-0.0 in
-    rw (handed-on c.from_residual.result n c.from_residual.ensures)
-    (refused-way (write_back a.line) a.supply a.state.now (memory a.home.now a.working.now a.log.now) c.requires n c.in_err-line_refusal.ensures refl refl)
+    let mem = memory a.home.now a.working.now a.log.now in
+    refused-by (write_back a.line) a.supply a.state.now mem c.requires c.in_err-line_refusal.field-0.0
+    c.in_err-line_refusal.ensures refl refl c.from_residual.result c.from_residual.ensures
 
 pub returns-then-supply-lt8 : goal.returns-then-supply-lt8
 returns-then-supply-lt8 c =

@@ -1,21 +1,22 @@
 -- The entries that wait in a buffer, by its array.
 use Prim.Native.Nat.{ℕ, ◌+◌, ◌-◌, ◌≤◌, ◌<◌, min}
 use mathlib.Core.Path.{◌≡◌, sym, ap, ap₂, ◌∙◌}
+use mathlib.Core.Bool.{Bool, true, false, cond}
 use mathlib.Core.List.{List, [], ◌∷◌, ◌++◌}
 use native.Mathlib.Decide.{dec_lt}
 use native.Mathlib.Omega.{arith}
 use borrow.Author.Tests.{le-leb, lt-leb}
-use lib.ListN.{length, get_or, take, drop, set, length-take, length-drop, length-set}
-use lib.Seq.{length-take-le, get_or-take, take_all, take-take, take-add, drop_at, paste, length-paste}
+use lib.ListN.{length, get_or, take, drop, set, length-take, length-drop, length-set, length-append}
+use lib.Seq.{drop-drop, length-take-le, get_or-take, take_all, take-take, take-add, drop_at, paste, length-paste}
 use Rattle.std.specs.List.{copy_within}
 use Rattle.std.proofs.lemmas.List.{take_more_set}
-use Rattle.std.proofs.lemmas.List.Edits.{take-paste}
+use Rattle.std.proofs.lemmas.List.Edits.{take-paste, drop-paste}
 use Rattle.parts.specs.declared.Entry.{Entry}
 use Rattle.parts.specs.Listed.{listed}
 use Rattle.parts.proofs.Listed.{length-listed, listed_of}
 use Rattle.parts.proofs.Oldest.{take-least}
 use Rattle.buffers.specs.declared.entries.Buffer.{Buffer}
-use Rattle.buffers.specs.Waiting.{no_entry, waiting, present}
+use Rattle.buffers.specs.Waiting.{no_entry, waiting, present, UnusedKept}
 
 -- there are as many as the length says
 pub length-waiting : {n : ℕ} (b : Buffer n) → length (waiting b) ≡ b.len
@@ -89,6 +90,17 @@ module _ {n : ℕ} (b : Buffer n) (full : length b.entries ≡ n) where
       (take-take at b.len xs (omega arith))
       (ap (drop from) halves ∙ drop_at (take from xs) (take m ys) from (length-take-le from xs (omega arith)))))
 
+  -- what stands behind them then stays
+  pub unused-out : (at count : ℕ) → at + count ≤ b.len → b.len ≤ n
+      → drop (b.len - count) (copy_within b.entries (at + count) b.len at) ≡ drop (b.len - count) b.entries
+  unused-out at count a short =
+      let xs : List Entry = b.entries in
+      let from : ℕ = at + count in
+      let m : ℕ = b.len - from in
+      let left : b.len - count ≡ at + m = omega arith in
+      let size : length (drop from xs) ≡ length xs - from = length-drop from xs in
+      rw left (drop-paste xs at (drop from xs) m (omega arith) (omega arith))
+
   -- one more
   pub waiting-more : (e : Entry) → b.len < n
       → waiting {n = n} (record { len = b.len + 1; entries = set b.entries b.len e }) ≡ waiting b ++ (e ∷ [])
@@ -97,3 +109,15 @@ module _ {n : ℕ} (b : Buffer n) (full : length b.entries ≡ n) where
       first (b.len + 1) (set b.entries b.len e) (omega arith)
       ∙ take_more_set b.entries b.len e (omega arith)
       ∙ ap (λ (es : List Entry). es ++ (e ∷ [])) (sym (waiting-take (omega arith)))
+
+-- what is done in two parts leaves as they were the places that both leave so, if the second leaves no fewer entries
+pub unused-then : {n : ℕ} (a b c : Buffer n) → b.len ≤ c.len → UnusedKept a b → UnusedKept b c → UnusedKept a c
+unused-then a b c more first second =
+    let d : ℕ = c.len - b.len in
+    let e : c.len ≡ b.len + d = omega arith in
+    second ∙ rw e (sym (drop-drop d b.len b.entries) ∙ ap (drop d) first ∙ drop-drop d b.len a.entries)
+
+-- with an entry added, or not, no fewer wait
+pub no-fewer : {n : ℕ} (b c : Buffer n) (t : Bool) (e : Entry) → waiting c ≡ cond t (waiting b ++ (e ∷ [])) (waiting b) → b.len ≤ c.len
+no-fewer b c true e h = omega (arith, length-waiting b, length-waiting c, ap length h, length-append (waiting b) (e ∷ []))
+no-fewer b c false e h = omega (arith, length-waiting b, length-waiting c, ap length h)

@@ -1,5 +1,5 @@
 -- A log buffer is the list of its entries, oldest first.
-use Rattle.std.specs.Prelude.{ℕ, Bool, cond, List, leb, get_or, replicate}
+use Rattle.std.specs.Prelude.{ℕ, ◌≡◌, Bool, cond, List, drop, leb, get_or, replicate}
 use Rattle.parts.specs.declared.Entry.{Entry}
 use Rattle.parts.specs.Listed.{listed}
 use Rattle.buffers.specs.declared.entries.Buffer.{Buffer}
@@ -28,3 +28,7 @@ present b = cond (fits b) (waiting b) b.entries
 -- a buffer of n places in which nothing waits, every place 0
 abbrev pub empty_buffer : (n : ℕ) → Buffer n
 empty_buffer n = record { len = 0; entries = replicate n no_entry }
+
+-- what is done to a buffer leaves the places as they were that are not in use after it
+abbrev pub UnusedKept : {n : ℕ} → Buffer n → Buffer n → Type 0
+UnusedKept before after = drop after.len after.entries ≡ drop after.len before.entries

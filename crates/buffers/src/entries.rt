@@ -2,7 +2,7 @@
 // changed.
 ghost use Rattle.std.specs.Prelude.{◌≡◌, ◌≤◌, ◌+◌, ◌&&◌, cond, [], ◌∷◌, ◌++◌, take, drop, leb, ltb, position, ◌==◌};
 ghost use Rattle.parts.specs.Entries.{discarded, amended};
-ghost use Rattle.buffers.specs.Waiting.{waiting, fits, present, empty_buffer};
+ghost use Rattle.buffers.specs.Waiting.{waiting, fits, present, empty_buffer, UnusedKept};
 
 use parts::Entry;
 
@@ -54,7 +54,8 @@ impl<const N: usize> Buffer<N> {
     // Takes `count` entries from place `at` on; those behind them move down.
     fn take_out(&mut self, at: usize, count: usize)
         requires { (at + count ≤ self.old.len) × (self.old.len ≤ N) }
-        ensures { waiting self.new ≡ take at (waiting self.old) ++ drop (at + count) (waiting self.old) }
+        ensures waits { waiting self.new ≡ take at (waiting self.old) ++ drop (at + count) (waiting self.old) }
+        ensures unused { UnusedKept self.old self.new }
     {
         self.entries.copy_within(at + count..self.len, at);
         self.len -= count;
@@ -62,8 +63,9 @@ impl<const N: usize> Buffer<N> {
 
     // The `count` oldest entries go. Of more than there are none does.
     pub fn drop_oldest(&mut self, count: usize)
-        ensures { waiting self.new
+        ensures waits { waiting self.new
             ≡ cond (leb count self.old.len && fits self.old) (drop count (waiting self.old)) (waiting self.old) }
+        ensures unused { UnusedKept self.old self.new }
     {
         if count <= self.len && self.len <= N {
             self.take_out(0, count);
@@ -72,8 +74,9 @@ impl<const N: usize> Buffer<N> {
 
     // An entry is added, if there is a place for it.
     pub fn push(&mut self, entry: Entry)
-        ensures { waiting self.new
+        ensures waits { waiting self.new
             ≡ cond (ltb self.old.len N) (waiting self.old ++ entry ∷ []) (waiting self.old) }
+        ensures unused { UnusedKept self.old self.new }
     {
         if self.len < N {
             self.entries[self.len] = entry;
@@ -83,7 +86,8 @@ impl<const N: usize> Buffer<N> {
 
     // The oldest entry of a word goes.
     pub fn discard(&mut self, word: u16)
-        ensures { waiting self.new ≡ cond (fits self.old) (discarded word (waiting self.old)) (waiting self.old) }
+        ensures waits { waiting self.new ≡ cond (fits self.old) (discarded word (waiting self.old)) (waiting self.old) }
+        ensures unused { UnusedKept self.old self.new }
     {
         if self.len <= N {
             if let Some(at) = self.find(word) {
@@ -94,7 +98,9 @@ impl<const N: usize> Buffer<N> {
 
     // The redo of the oldest entry of a word is replaced.
     pub fn amend(&mut self, word: u16, redo: u64)
-        ensures { waiting self.new ≡ cond (fits self.old) (amended word redo (waiting self.old)) (waiting self.old) }
+        ensures waits { waiting self.new
+            ≡ cond (fits self.old) (amended word redo (waiting self.old)) (waiting self.old) }
+        ensures unused { UnusedKept self.old self.new }
     {
         if self.len <= N {
             if let Some(at) = self.find(word) {
@@ -104,7 +110,8 @@ impl<const N: usize> Buffer<N> {
     }
 
     pub fn clear(&mut self)
-        ensures { waiting self.new ≡ [] }
+        ensures waits { waiting self.new ≡ [] }
+        ensures unused { UnusedKept self.old self.new }
     {
         self.len = 0;
     }

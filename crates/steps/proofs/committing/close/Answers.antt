@@ -18,4 +18,4 @@ returns c mem counted =
     (c.mark_logged.ensures
     ∙ ap (λ (es : List Entry). all_logged es s.lines) (c.oldest.ensures ∙ oldest-all s.undos c.requires.1.1.undos))
     (ap (λ (ls : List Line). ls ++ drop (s.words / 8) c.mark_logged.new.lines) c.release.ensures)
-    c.clear.ensures c.clear-2.ensures
+    c.clear.ensures.waits c.clear-2.ensures.waits

@@ -128,4 +128,4 @@ returns c =
     (appended at.After-append_redos-left)
     (evict-next a.state.now (lent at.Start) a.line c.requires (own at.In_ok-refusal) c.drop_redos.new.state count.result
     (lacks at.After-lacking-count) count.ensures.upper_bound c.drop_redos.ensures
-    c.add_ulog_words.new.self _ (search rules) c.add_ulog_words.ensures (simp set-get_or))
+    c.add_ulog_words.new.self _ (search rules) c.add_ulog_words.ensures.waits (simp set-get_or))

@@ -7,5 +7,5 @@ pub returns : goal.returns
 returns c =
     let b = c.args.state.now.redos in
     let h = c.requires in
-    let rest = dropped b c.args.count h.0 h.1.redos c.drop_oldest.new.self c.drop_oldest.ensures in
+    let rest = dropped b c.args.count h.0 h.1.redos c.drop_oldest.new.self c.drop_oldest.ensures.waits in
     rw (rest, records-oldest b c.args.count h.0 redo_record)

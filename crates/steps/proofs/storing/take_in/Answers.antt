@@ -107,7 +107,7 @@ returns-in-Clean c mem was =
     let fit : d.redos.len ≤ 32 = omega (arith, length-waiting d.redos, ap length redos, length-waiting s.redos) in
     let whole : length d.lines ≡ 64 = search rules in
     next o mem was 0 clean d _ m
-    (stored-clean d e whole (omega arith) c.mark.new.lines c.push.new.self c.discard.new.self short fit c.mark.ensures c.push.ensures c.discard.ensures)
+    (stored-clean d e whole (omega arith) c.mark.new.lines c.push.new.self c.discard.new.self short fit c.mark.ensures c.push.ensures.waits c.discard.ensures.waits)
 
 pub returns-in-Dirty : goal.returns-in-Dirty
 returns-in-Dirty c mem was =
@@ -115,7 +115,7 @@ returns-in-Dirty c mem was =
     let is = sym (ap bits_of c.in-Dirty.is) in
     let h = c.requires in
     next o mem was 1 is (dirty o) _ (none o 1 is (omega arith))
-    (stored-dirty (dirty o) c.args.entry (whole-dirty o) (few o).1 c.amend.new.self (omega arith) c.amend.ensures)
+    (stored-dirty (dirty o) c.args.entry (whole-dirty o) (few o).1 c.amend.new.self (omega arith) c.amend.ensures.waits)
 
 pub returns-in-UrLog : goal.returns-in-UrLog
 returns-in-UrLog c mem was =

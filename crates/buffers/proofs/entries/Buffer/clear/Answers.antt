@@ -3,5 +3,5 @@ use Rattle.std.proofs.Common.{refl}
 use Rattle.buffers.proofs.Waiting.{waiting-none}
 use Rattle.buffers.proofs.entries.Buffer.clear.Goals as goal
 
-pub returns : goal.returns
-returns g c = waiting-none {n = g.row.N} (record { len = 0; entries = c.args.self.now.entries }) refl
+pub returns-clause-waits : goal.returns-clause-waits
+returns-clause-waits g c = waiting-none {n = g.row.N} _ refl

@@ -9,13 +9,13 @@ take_out-requires g c =
     let below = found c.args.self.now (search rules) (omega arith) c.args.word c.find.result c.find.ensures c.in-Some.at c.in-Some.is in
     (search rules, (omega arith, omega arith))
 
-pub returns-in-Some : goal.returns-in-Some
-returns-in-Some g c =
+pub returns-in-Some-clause-waits : goal.returns-in-Some-clause-waits
+returns-in-Some-clause-waits g c =
     let b = c.args.self.now in
     rw (le-leb b.len g.row.N (omega arith))
-    (c.take_out.ensures ∙ discarded-found b (search rules) (omega arith) c.args.word c.find.result c.find.ensures c.in-Some.at c.in-Some.is)
+    (c.take_out.ensures.waits ∙ discarded-found b (search rules) (omega arith) c.args.word c.find.result c.find.ensures c.in-Some.at c.in-Some.is)
 
-pub returns-in_default : goal.returns-in_default
-returns-in_default g c =
+pub returns-in_default-clause-waits : goal.returns-in_default-clause-waits
+returns-in_default-clause-waits g c =
     let b = c.args.self.now in
     rw (le-leb b.len g.row.N (omega arith)) (discarded-none b (search rules) (omega arith) c.args.word c.find.result c.find.ensures c.in_default.is)

@@ -17,7 +17,7 @@ pub use home_stores::{has_dirty, store_line};
 pub use releasing::release;
 pub use ulog_records::append_newest;
 pub use ulog_words::{count_newest, count_ulog};
-pub use word_states::{holder_of, mark, state_at, state_of, with_state};
+pub use word_states::{holder_of, mark, state_at, state_of, with_bits, with_state};
 
 // The holder of a line that nobody holds: "255 for none".
 pub const NOBODY: u8 = 255;

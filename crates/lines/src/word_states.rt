@@ -1,5 +1,5 @@
 // The two-bit states of a line's words, and the holder of a word's line.
-ghost use Rattle.std.specs.Prelude.{◌≡◌, ◌/◌, cond, ltb};
+ghost use Rattle.std.specs.Prelude.{◌≡◌, ◌/◌, ◌&&◌, cond, ltb};
 ghost use Rattle.parts.specs.States.{state_at, with_state, bits_of};
 ghost use Rattle.model.specs.Machine.{line_of, state_in, holder_in, marked};
 
@@ -25,6 +25,17 @@ pub fn with_state(states: u16, j: u64, state: WordState) -> u16
         let old = state_at(states, j).bits();
         let others = states as u64 - (old << (2 * j));
         (others + (state.bits() << (2 * j))) as u16
+    } else {
+        states
+    }
+}
+
+// The same by the number of a state. There are four.
+pub fn with_bits(states: u16, j: u64, bits: u64) -> u16
+    ensures { result ≡ cond (ltb j 8 && ltb bits 4) (with_state states j bits) states }
+{
+    if bits < 4 {
+        with_state(states, j, WordState::from_bits(bits))
     } else {
         states
     }

@@ -7,4 +7,4 @@ mod room;
 mod verdicts;
 
 pub use room::no_room;
-pub use verdicts::verdict;
+pub use verdicts::{is_dirty, verdict};

@@ -12,7 +12,7 @@ use parts::Verdict;
 use state::Machine;
 
 // The dirty flag of a word's line; past the lines in use there is none.
-fn is_dirty(state: &Machine, word: u16) -> bool
+pub fn is_dirty(state: &Machine, word: u16) -> bool
     ensures { result ≡ dirty_in (view state.now).lines word }
 {
     let at = word / 8;

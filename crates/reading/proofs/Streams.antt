@@ -223,6 +223,20 @@ module _ (n : Number) (piece buffer₀ : List ℕ) where
           let w = length-within in let e = f.printed in let l = f.within in
           ap length f.buffered ∙ simp (length-append, length-drop) (omega arith)
 
+      -- a byte that is no line feed prints nothing
+      pub other-read : i < length piece → (get_or piece i 0 ≡ line_feed → ⊥)
+          → FedTo buffer (record { number = with_byte fed.number (get_or piece i 0); length = fed.length }) (i + 1)
+      other-read h ne =
+          let e : so_far (i + 1) ≡ output_before (so_far i).output (record { number = with_byte fed.number (get_or piece i 0); output = [] }) =
+          ap (read_on n) (taken_next piece i h) ∙ read-append n (take i piece) (get_or piece i 0 ∷ [])
+          ∙ ap (output_before (so_far i).output) (ap (λ (m : Number). read_on m (get_or piece i 0 ∷ [])) (sym f.number) ∙ read-other fed.number (get_or piece i 0) ne) in
+          record {
+            within = omega arith;
+            number = rw e;
+            printed = rw (e, append-nil) f.printed;
+            buffered = rw (e, append-nil) f.buffered;
+          }
+
       module _ (h : i < length piece) (r : Result Fed TooShort) (part : List ℕ) where
         abbrev byte : ℕ
         byte = get_or piece i 0
@@ -278,3 +292,23 @@ module _ (n : Number) (piece buffer₀ : List ℕ) where
             printed = rw read_next (sym (length-append (so_far i).output next.output ∙ ap (λ (k : ℕ). k + length next.output) (sym f.printed)));
             buffered = rw read_next;
           }
+
+      -- a line feed prints its line into what is left of the buffer, which has room for it
+      module _ (h : i < length piece) (r : Result ℕ TooShort) (part : List ℕ)
+          (put : filled r part ≡ filled_with (printed_line fed.number) (mid_of fed.length (length buffer - fed.length) buffer)) where
+        line-room : 22 ≤ length (mid_of fed.length (length buffer - fed.length) buffer)
+        line-room =
+            let w = length-within in
+            rw (lent h (Ok fed) part) (omega (arith, rest h (Ok fed) part, kept))
+
+        pub line-put : r ≡ Ok (length (printed_line fed.number))
+        line-put =
+            let line = line-longest fed.number in
+            let large = line-room in
+            (filled-known (printed_line fed.number) _ r part (omega arith) put).0
+
+        pub line-read : (size : ℕ) → get_or piece i 0 ≡ line_feed → r ≡ Ok size
+            → FedTo (put_mid fed.length (length buffer - fed.length) buffer part) (record { number = Blank; length = fed.length + size }) (i + 1)
+        line-read size e g =
+            byte-read h (Ok (record { number = Blank; length = size })) part
+            (line-fed fed.number (get_or piece i 0) _ e line-room r part put g) (record { number = Blank; length = size }) refl

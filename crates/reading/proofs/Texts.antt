@@ -62,6 +62,18 @@ pub text-length : (z : ℤ) (start whole places : ℕ) → start ≡ bool_byte (
 unfolding count_text
 text-length z start whole places e f g = simp (length-append, sign-length z) (rw (e, g, f) (omega arith))
 
+-- a minus stands where the word's highest bit does
+pub sign-of-word : (word : ℕ) → word < 2 ^ 64 → bool_byte (lt_z (signed word) (pos 0)) ≡ word / 2 ^ 63
+sign-of-word word h = elim (dec_lt word (2 ^ 63)) [
+  | yes p ↦ rw (signed_low word p, le-ltb word 0 (omega arith)) (omega arith)
+  | no q ↦ rw (signed_high word (omega arith)) (omega arith)
+]
+
+-- the text's length, by the word
+pub text-length-by-word : (word : ℕ) → word < 2 ^ 64
+    → length (text_of word) ≡ word / 2 ^ 63 + length (decimal (whole_part (signed word))) + 2
+text-length-by-word word h = text-length (signed word) _ _ _ (sym (sign-of-word word h)) refl refl
+
 -- the sign in front of a buffer
 pub sign-stored : (z : ℤ) (buffer : List ℕ) → 1 ≤ length buffer → lt_z z (pos 0) ≡ true
     → set buffer 0 minus ≡ sign_of z ++ drop (bool_byte (lt_z z (pos 0))) buffer

@@ -1,5 +1,5 @@
 // Words to readings, line by line, in a text that is read in pieces.
-ghost use Rattle.std.specs.Prelude.{◌≡◌, [], ◌∷◌};
+ghost use Rattle.std.specs.Prelude.{◌≡◌};
 ghost use Rattle.formats.specs.Written.{filled, filled_with};
 ghost use Rattle.reading.specs.Stream.{printed_line, printed_last, filling, fed_with};
 
@@ -37,26 +37,6 @@ fn put_line(number: Number, buffer: &mut [u8]) -> Result<usize, TooShort>
     }
 }
 
-// Reads one byte more.
-fn feed_byte(number: Number, byte: u8, buffer: &mut [u8]) -> Result<Fed, TooShort>
-    ensures { filling result buffer.new ≡ fed_with number (byte ∷ []) buffer.old }
-{
-    if buffer.len() < LINE {
-        return Err(TooShort);
-    }
-    if byte == LINE_FEED {
-        let length = put_line(number, buffer)?;
-        return Ok(Fed {
-            number: Number::Blank,
-            length,
-        });
-    }
-    Ok(Fed {
-        number: number.with_byte(byte),
-        length: 0,
-    })
-}
-
 // Reads the next piece of a text; `number` is what the pieces before have left of their last line. A line is printed
 // into the buffer for each that ends here. The buffer needs LINE bytes for each byte of the piece.
 pub fn feed(number: Number, piece: &[u8], buffer: &mut [u8]) -> Result<Fed, TooShort>
@@ -66,15 +46,20 @@ pub fn feed(number: Number, piece: &[u8], buffer: &mut [u8]) -> Result<Fed, TooS
     if buffer.len() / LINE < piece.len() {
         return Err(TooShort);
     }
-    let mut fed = Fed { number, length: 0 };
+    let mut last = number;
+    let mut length = 0;
     for byte in piece {
-        let more = feed_byte(fed.number, *byte, &mut buffer[fed.length..])?;
-        fed = Fed {
-            number: more.number,
-            length: fed.length + more.length,
-        };
+        if *byte == LINE_FEED {
+            length += put_line(last, &mut buffer[length..])?;
+            last = Number::Blank;
+        } else {
+            last = last.with_byte(*byte);
+        }
     }
-    Ok(fed)
+    Ok(Fed {
+        number: last,
+        length,
+    })
 }
 
 // Ends the text: puts the line for a last line that lacks its line feed into the buffer.

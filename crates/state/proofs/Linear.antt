@@ -429,14 +429,18 @@ module _ (m : Machine) (lines : length m.lines ≡ m.sizes.words / 8) where
 
 -- what the limits say of W and of the buffers
 pub limits-hold : (m : Machine) → in_limits m ≡ true
-    → (m.sizes.words ≤ 512) × (length m.buffers.undo_redo ≤ 16) × (length m.buffers.redo ≤ 32)
+    → (m.sizes.words ≤ 512) × (m.sizes.words % 8 ≡ 0) × (length m.buffers.undo_redo ≤ 16) × (length m.buffers.redo ≤ 32)
 limits-hold m t =
     let l = limits m t in
     let rest = leb m.sizes.words 512 && eqb (m.sizes.words % 8) 0 in
     let w = halves {a = leb 8 m.sizes.words} {b = rest} (both_left (is_width m.sizes.words) (leb 8 m.sizes.slots && leb m.sizes.slots 1024) l.sizes) in
     let v = halves w.1 in
-    let e = halves l.entries in
-    (leb-true m.sizes.words 512 v.0, leb-true (length m.buffers.undo_redo) 16 e.0, leb-true (length m.buffers.redo) 32 e.1)
+    let e = halves l.entries in (
+      leb-true m.sizes.words 512 v.0,
+      eqb-true (m.sizes.words % 8) 0 v.1,
+      leb-true (length m.buffers.undo_redo) 16 e.0,
+      leb-true (length m.buffers.redo) 32 e.1,
+    )
 
 module _ (m : Machine) (lines : length m.lines ≡ m.sizes.words / 8) where
   abbrev after : List Line

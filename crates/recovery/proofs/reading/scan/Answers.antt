@@ -26,7 +26,8 @@ returns-in_err-thread-clause-none c =
     (sofar-bad _ _ _ _ _ c.loop.invariant (omega arith) (there here) (sym c.read.ensures ∙ c.in_err-thread.was))
 
 pub bounds-last-thread : goal.bounds-last-thread
-bounds-last-thread c = thread-read c.args.words c.loop.tail c.args.log.now c.read.ensures c.in_ok-thread.was c.in-Commit.is
+bounds-last-thread c =
+    omega (arith, thread-read c.args.words c.loop.tail c.args.log.now c.read.ensures c.in_ok-thread.was c.in-Commit.is)
 
 pub overflow_add-tail : goal.overflow_add-tail
 overflow_add-tail c = omega (arith, number-below c.args.log.now c.loop.tail (sym c.is_written.ensures ∙ c.if-not-is_written.false))
